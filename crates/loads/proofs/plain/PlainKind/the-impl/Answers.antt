@@ -1,0 +1,5 @@
+use Rattle.loads.proofs.Plains.{plain-laws}
+use Rattle.loads.proofs.plain.PlainKind.the-impl.Needs as need
+
+pub laws-law : need.laws-law
+laws-law k = plain-laws

@@ -1,0 +1,50 @@
+//! The interface of load kinds.
+ghost use mathlib.Core.Logic.{_≢_};
+ghost use mathlib.Core.Path.{_≡_};
+ghost use Prim.Native.Nat.{ℕ, _≤_};
+ghost use Rattle.numbers.specs.Columns.{largest-listed};
+ghost use Rattle.loads.specs.Kind.{Kind, Laws, Until, horizon};
+ghost use Rattle.loads.specs.Rows.{Judged};
+use super::rows::Row;
+use super::rows::RowFault;
+
+/// The last instant of a request: a later one counts as this.
+pub const HORIZON: u64 = 2_000_000;
+
+/// Says what a row means: whether it is lawful, and the work that it stands for. On an unlawful row the numbers are 0.
+pub trait LoadKind {
+    ghost means: { Self → Kind };
+
+    law laws: { (k : Self) → Laws (means k) };
+
+    /// Yes, or the lowest-numbered entry at fault.
+    fn lawful(&self, row: &Row) -> Result<(), RowFault>
+        ensures { λ r. ⌜ Judged (means (now (self .entry)) .fault (now (row .entry))) r ⌝ };
+
+    /// The longest job.
+    fn longest(&self, row: &Row) -> u64
+        ensures { λ r. ⌜ r ≡ means (now (self .entry)) .longest (now (row .entry)) ⌝ };
+
+    /// The least time from one job to the next.
+    fn separation(&self, row: &Row) -> u64
+        ensures { λ r. ⌜ r ≡ means (now (self .entry)) .separation (now (row .entry)) ⌝ };
+
+    /// The most work that can arrive in `t` ticks.
+    fn request(&self, row: &Row, t: u64) -> u64
+        ensures { λ r. ⌜ r ≡ means (now (self .entry)) .request (now (row .entry)) t ⌝ };
+
+    /// The greatest instant up to the horizon with the same request as `t`.
+    fn until(&self, row: &Row, t: u64) -> u64
+        ensures lawful { λ r. ⌜ (means (now (self .entry)) .fault (now (row .entry)) ≡ 0 → Until horizon (means (now (self .entry)) .request (now (row .entry))) t r) ⌝ }
+        ensures unlawful { λ r. ⌜ (means (now (self .entry)) .fault (now (row .entry)) ≢ 0 → r ≡ 0) ⌝ };
+}
+
+/// A load kind that stands on sheets, by its code.
+pub trait ListedKind: LoadKind {
+    ghost coded: { Self → ℕ };
+
+    law codes: { (k : Self) → coded k ≤ largest-listed };
+
+    fn code(&self) -> u64
+        ensures { λ r. ⌜ r ≡ coded (now (self .entry)) ⌝ };
+}

@@ -1,0 +1,3 @@
+pub mod Supplied
+pub mod Shares
+pub mod Refusals

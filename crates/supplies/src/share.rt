@@ -1,0 +1,79 @@
+//! A share of the processor (the periodic resource model).
+ghost use mathlib.Core.Path.{_≡_};
+ghost use Prim.Native.Nat.{_≤_};
+ghost use Rattle.std.specs.Results.{Cases};
+ghost use Rattle.supplies.specs.Shares.{Lawful-share, share};
+ghost use Rattle.supplies.specs.Supplied.{last-instant};
+use super::fault::SupplyFault;
+use super::supply::LAST_INSTANT;
+use super::supply::ListedSupply;
+use super::supply::Supply;
+
+/// `budget` ticks of each `period`, at the worst time.
+#[derive(Clone, Copy)]
+pub struct Share {
+    budget: u64,
+    period: u64,
+    ghost some: { 1 ≤ budget },
+    ghost part: { budget ≤ period },
+    ghost brief: { period ≤ last-instant },
+}
+
+impl Share {
+    /// A share of `budget` in `period`, where 1 ≤ budget ≤ period ≤ 1,000,000.
+    pub fn new(budget: u64, period: u64) -> Result<Share, SupplyFault>
+        ensures { λ r. ⌜ Cases r (λ s. (s .budget ≡ budget) × (s .period ≡ period)) (λ f. (Lawful-share budget period → ⊥) × (f ≡ SupplyFault.Share)) ⌝ }
+    {
+        if 1 <= budget && budget <= period && period <= LAST_INSTANT {
+            Ok(Share { budget, period })
+        } else {
+            Err(SupplyFault::Share)
+        }
+    }
+}
+
+pub impl Supply for Share as ShareSupply {
+    ghost gives = { λ s. share (s .budget) (s .period) };
+
+    fn supplied(&self, t: u64) -> u64 {
+        let t = t.min(LAST_INSTANT);
+        if self.budget == self.period {
+            return t;
+        }
+        let gap = self.period - self.budget;
+        let round = t.saturating_sub(gap).div_ceil(self.period).max(1);
+        let end = (round + 1) * self.period - self.budget;
+        if end - self.budget <= t && t <= end {
+            t - (round + 1) * gap
+        } else {
+            (round - 1) * self.budget
+        }
+    }
+
+    fn when(&self, w: u64) -> Option<u64> {
+        if w == 0 {
+            return Some(0);
+        }
+        if w > LAST_INSTANT {
+            return None;
+        }
+        let gap = self.period - self.budget;
+        let full = (w - 1) / self.budget;
+        let at = full * self.period + 2 * gap + (w - full * self.budget);
+        if at <= LAST_INSTANT { Some(at) } else { None }
+    }
+}
+
+pub impl ListedSupply for Share as ShareListed {
+    ghost coded = { λ _. 2 };
+
+    ghost numbered = { λ s. (s .budget, s .period) };
+
+    fn code(&self) -> u64 {
+        2
+    }
+
+    fn numbers(&self) -> (u64, u64) {
+        (self.budget, self.period)
+    }
+}
