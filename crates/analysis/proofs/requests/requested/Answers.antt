@@ -1,0 +1,26 @@
+use mathlib.Core.Path.{_≡_, ap, _∙_}
+use mathlib.Core.List.{[]}
+use borrow.Author.Needs.{needs}
+use native.Mathlib.Omega.{arith}
+use lib.ListN.{getD}
+use lib.Seq.{take-all}
+use Rattle.loads.specs.Kind.{Kind}
+use Rattle.analysis.specs.Instants.{requests}
+use Rattle.analysis.proofs.Totals.{request-bounded, requests-more}
+use Rattle.analysis.proofs.requests.requested.Needs as need
+
+pub add-sum : need.add-sum
+add-sum g c =
+    let small = request-bounded (g .K·LoadKind .means (c .args .kind .now)) (g .K·LoadKind·met .laws (c .args .kind .now)) (getD (c .args .rows .now) (c .loop-row .row-index) []) (c .args .t) in
+    search needs
+
+pub loop-row-again : need.loop-row-again
+loop-row-again g c =
+    let k : Kind = g .K·LoadKind .means (c .args .kind .now) in
+    let small = request-bounded k (g .K·LoadKind·met .laws (c .args .kind .now)) (getD (c .args .rows .now) (c .loop-row .row-index) []) (c .args .t) in
+    let more = requests-more k (c .args .rows .now) (c .loop-row .row-index) (c .args .t) (c .loop-row-test .taken) in
+    (omega arith, omega arith)
+
+pub returns : need.returns
+returns g c =
+    c .loop-row .inv .0 ∙ ap (λ l. requests (g .K·LoadKind .means (c .args .kind .now)) l (c .args .t)) (take-all _ _ (c .loop-row-test .left))
