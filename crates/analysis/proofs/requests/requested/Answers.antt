@@ -22,5 +22,7 @@ loop-row-again g c =
     (omega arith, omega arith)
 
 pub returns : need.returns
-returns g c =
-    c .loop-row .inv .0 ∙ ap (λ l. requests (g .K·LoadKind .means (c .args .kind .now)) l (c .args .t)) (take-all _ _ (c .loop-row-test .left))
+returns g c = record {
+  is = c .loop-row .inv .0 ∙ ap (λ l. requests (g .K·LoadKind .means (c .args .kind .now)) l (c .args .t)) (take-all _ _ (c .loop-row-test .left));
+  small = search needs
+}
