@@ -1,10 +1,11 @@
 -- Requests of several rows together: bounds, one row more, and how they rise.
-use mathlib.Core.Path.{_≡_, refl, ap, _∙_}
+use mathlib.Core.Path.{_≡_, ap}
 use mathlib.Core.List.{List, [], _∷_}
 use mathlib.Core.Logic.{⊎-elim}
-use Prim.Native.Nat.{ℕ, _+_, _*_, _≤_, _<_}
+use Prim.Native.Nat.{ℕ, _+_, _≤_, _<_}
 use native.Mathlib.Omega.{arith}
 use lib.ListN.{length, getD, take}
+use lib.Seq.{take-all}
 use Rattle.std.proofs.shelf.Sums.{sumBy-cons, sumBy-more, sumBy-take-le}
 use Rattle.std.proofs.shelf.Tests.{cases-eq}
 use Rattle.loads.specs.Kind.{Kind, Laws, most-work}
@@ -14,6 +15,10 @@ module _ (k : Kind) where
   -- one row more
   pub requests-more : (rows : List (List ℕ)) (i t : ℕ) → i < length rows → requests k (take (i + 1) rows) t ≡ requests k (take i rows) t + k .request (getD rows i []) t
   requests-more rows i t h = sumBy-more (λ row. k .request row t) rows i [] h
+
+  -- all rows
+  pub requests-all : (rows : List (List ℕ)) (i t : ℕ) → length rows ≤ i → requests k (take i rows) t ≡ requests k rows t
+  requests-all rows i t h = ap (λ some. requests k some t) (take-all i rows h)
 
   pub requests-of-some : (rows : List (List ℕ)) (i t : ℕ) → requests k (take i rows) t ≤ requests k rows t
   requests-of-some rows i t = sumBy-take-le (λ row. k .request row t) rows i

@@ -56,6 +56,11 @@ pub record Until (limit : ℕ) (r : ℕ → ℕ) (t u : ℕ) : Type 0 where
   pub same : r u ≡ r t
   pub greatest : (v : ℕ) → u < v → v ≤ limit → r v ≢ r t
 
+-- the answer to how long a row's request at t lasts: to the greatest such instant within the horizon, 0 on an unlawful row
+pub record Lasts (k : Kind) (row : List ℕ) (t u : ℕ) : Type 0 where
+  pub lawful : k .fault row ≡ 0 → Until horizon (k .request row) t u
+  pub unlawful : k .fault row ≢ 0 → u ≡ 0
+
 -- x where the row is lawful, 0 where it is not
 abbrev pub if-lawful : Kind → List ℕ → ℕ → ℕ
 if-lawful k row x = cond (eqb (k .fault row) 0) x 0

@@ -1,9 +1,8 @@
 //! The interface of load kinds.
-ghost use mathlib.Core.Logic.{_≢_};
 ghost use mathlib.Core.Path.{_≡_};
 ghost use Prim.Native.Nat.{ℕ, _≤_};
 ghost use Rattle.numbers.specs.Columns.{largest-listed};
-ghost use Rattle.loads.specs.Kind.{Kind, Laws, Until, horizon};
+ghost use Rattle.loads.specs.Kind.{Kind, Lasts, Laws};
 ghost use Rattle.loads.specs.Rows.{Judged};
 use super::rows::Row;
 use super::rows::RowFault;
@@ -35,8 +34,7 @@ pub trait LoadKind {
 
     /// The greatest instant up to the horizon with the same request as `t`.
     fn until(&self, row: &Row, t: u64) -> u64
-        ensures lawful { λ r. ⌜ (means (now (self .entry)) .fault (now (row .entry)) ≡ 0 → Until horizon (means (now (self .entry)) .request (now (row .entry))) t r) ⌝ }
-        ensures unlawful { λ r. ⌜ (means (now (self .entry)) .fault (now (row .entry)) ≢ 0 → r ≡ 0) ⌝ };
+        ensures { λ r. ⌜ Lasts (means (now (self .entry))) (now (row .entry)) t r ⌝ };
 }
 
 /// A load kind that stands on sheets, by its code.

@@ -1,17 +1,16 @@
-use mathlib.Core.Path.{_≡_, ap, _∙_}
+use mathlib.Core.Path.{_≡_}
 use mathlib.Core.Bool.{Bool, false}
 use mathlib.Core.List.{[]}
 use Prim.Native.Nat.{ℕ, _+_, _≤_, _<_}
 use borrow.Author.Needs.{needs}
 use native.Mathlib.Omega.{arith}
-use lib.ListN.{getD, take}
-use lib.Seq.{take-all}
+use lib.ListN.{getD}
 use Rattle.std.specs.declared.option.Option.the-variants.{Some, None}
 use Rattle.analysis.specs.Extremes.{Earliest}
 use Rattle.analysis.specs.Instants.{requests, served}
 use Rattle.analysis.proofs.Extremes.{earliest-unique}
 use Rattle.analysis.proofs.Serving.{none-served, none-until, none-by-some, served-at}
-use Rattle.analysis.proofs.Totals.{request-bounded, requests-more}
+use Rattle.analysis.proofs.Totals.{request-bounded, requests-more, requests-all}
 use Rattle.analysis.proofs.instants.first_instant.Needs as need
 
 pub add-asked : need.add-asked
@@ -29,8 +28,7 @@ instants-again g c =
     let k = g .K·LoadKind .means (c .args .kind .now) in
     let s = g .S·Supply .gives (c .args .supply .now) in
     let rows = c .args .above .now in
-    let all : take (c .loop-row .row-index) rows ≡ rows = take-all _ _ (c .loop-row-test .left) in
-    let asks : c .loop-row .asked ≡ c .args .base + requests k rows (c .instants .t) = c .loop-row .inv ∙ ap (λ r. c .args .base + requests k r (c .instants .t)) all in
+    let asks : c .loop-row .asked ≡ c .args .base + requests k rows (c .instants .t) = omega (arith, requests-all k rows (c .loop-row .row-index) (c .instants .t) (c .loop-row-test .left)) in
     let reached = c .in-Some .ensures tt in
     (omega arith, reached .within, none-until k (g .K·LoadKind·met .laws (c .args .kind .now)) s (g .S·Supply·met .laws (c .args .supply .now)) rows (c .args .base) (c .instants .t) (c .loop-row .asked) (c .instants .inv .2) (omega arith) (c .in-Some .u) reached)
 
@@ -55,8 +53,7 @@ returns-in-None g c =
     let s = g .S·Supply .gives (c .args .supply .now) in
     let rows = c .args .above .now in
     let p : ℕ → Bool = served k s rows (c .args .base) in
-    let all : take (c .loop-row .row-index) rows ≡ rows = take-all _ _ (c .loop-row-test .left) in
-    let asks : c .loop-row .asked ≡ c .args .base + requests k rows (c .instants .t) = c .loop-row .inv ∙ ap (λ r. c .args .base + requests k r (c .instants .t)) all in
+    let asks : c .loop-row .asked ≡ c .args .base + requests k rows (c .instants .t) = omega (arith, requests-all k rows (c .loop-row .row-index) (c .instants .t) (c .loop-row-test .left)) in
     let none : (v : ℕ) → 1 ≤ v → v ≤ c .args .last → p v ≡ false = λ v some within.
         none-served k (g .K·LoadKind·met .laws (c .args .kind .now)) s (g .S·Supply·met .laws (c .args .supply .now)) rows (c .args .base) (c .instants .t) (c .loop-row .asked) (c .instants .inv .2) (omega arith) (c .in-None .ensures tt) v some in
     record { is = earliest-unique p (c .args .last) None none; earliest = none }
@@ -67,8 +64,7 @@ returns-then-u-t g c =
     let s = g .S·Supply .gives (c .args .supply .now) in
     let rows = c .args .above .now in
     let p : ℕ → Bool = served k s rows (c .args .base) in
-    let all : take (c .loop-row .row-index) rows ≡ rows = take-all _ _ (c .loop-row-test .left) in
-    let asks : c .loop-row .asked ≡ c .args .base + requests k rows (c .instants .t) = c .loop-row .inv ∙ ap (λ r. c .args .base + requests k r (c .instants .t)) all in
+    let asks : c .loop-row .asked ≡ c .args .base + requests k rows (c .instants .t) = omega (arith, requests-all k rows (c .loop-row .row-index) (c .instants .t) (c .loop-row-test .left)) in
     let found : Earliest p (c .args .last) (Some (c .instants .t)) = record {
       from = c .instants .inv .0;
       to = omega arith;

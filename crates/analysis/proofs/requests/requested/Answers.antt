@@ -1,12 +1,10 @@
-use mathlib.Core.Path.{_≡_, ap, _∙_}
+use mathlib.Core.Path.{_∙_}
 use mathlib.Core.List.{[]}
 use borrow.Author.Needs.{needs}
 use native.Mathlib.Omega.{arith}
 use lib.ListN.{getD}
-use lib.Seq.{take-all}
 use Rattle.loads.specs.Kind.{Kind}
-use Rattle.analysis.specs.Instants.{requests}
-use Rattle.analysis.proofs.Totals.{request-bounded, requests-more}
+use Rattle.analysis.proofs.Totals.{request-bounded, requests-more, requests-all}
 use Rattle.analysis.proofs.requests.requested.Needs as need
 
 pub add-sum : need.add-sum
@@ -23,6 +21,6 @@ loop-row-again g c =
 
 pub returns : need.returns
 returns g c = record {
-  is = c .loop-row .inv .0 ∙ ap (λ l. requests (g .K·LoadKind .means (c .args .kind .now)) l (c .args .t)) (take-all _ _ (c .loop-row-test .left));
+  is = c .loop-row .inv .0 ∙ requests-all (g .K·LoadKind .means (c .args .kind .now)) (c .args .rows .now) (c .loop-row .row-index) (c .args .t) (c .loop-row-test .left);
   small = search needs
 }

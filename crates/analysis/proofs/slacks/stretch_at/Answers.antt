@@ -1,14 +1,13 @@
-use mathlib.Core.Path.{_≡_, refl, ap, sym, subst, _∙_}
-use mathlib.Core.List.{List, []}
+use mathlib.Core.Path.{refl, sym, subst, _∙_}
+use mathlib.Core.List.{[]}
 use Prim.Native.Nat.{ℕ, _+_}
 use borrow.Author.Needs.{needs}
 use native.Mathlib.Omega.{arith}
 use lib.ListN.{getD, take}
-use lib.Seq.{take-all}
 use Rattle.loads.specs.Kind.{Kind, Laws, Until}
 use Rattle.analysis.specs.Instants.{requests}
-use Rattle.analysis.proofs.Stretches.{until-none, stretch-more}
-use Rattle.analysis.proofs.Totals.{request-bounded, requests-more}
+use Rattle.analysis.proofs.Stretches.{until-none, until-same, stretch-more}
+use Rattle.analysis.proofs.Totals.{request-bounded, requests-more, requests-all}
 use Rattle.analysis.proofs.slacks.stretch_at.Needs as need
 
 pub add-asked : need.add-asked
@@ -35,10 +34,8 @@ loop-row-again g c =
 pub returns : need.returns
 returns g c =
     let k : Kind = g .K·LoadKind .means (c .args .kind .now) in
-    let all : take (c .loop-row .row-index) (c .args .rows .now) ≡ c .args .rows .now = take-all _ _ (c .loop-row-test .left) in
-    let P : List (List ℕ) → Type 0 = λ rows. Until (c .args .last) (requests k rows) (c .args .t) (c .loop-row .end) in
     record {
-      asked = c .loop-row .inv .0 ∙ ap (λ rows. requests k rows (c .args .t)) all;
+      asked = c .loop-row .inv .0 ∙ requests-all k (c .args .rows .now) (c .loop-row .row-index) (c .args .t) (c .loop-row-test .left);
       small = search needs;
-      end = subst P all (c .loop-row .inv .2)
+      end = until-same (c .args .last) (requests k (take (c .loop-row .row-index) (c .args .rows .now))) (requests k (c .args .rows .now)) (c .args .t) (c .loop-row .end) (λ v. requests-all k (c .args .rows .now) (c .loop-row .row-index) v (c .loop-row-test .left)) (c .loop-row .inv .2)
     }
