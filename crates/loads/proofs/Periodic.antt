@@ -9,8 +9,12 @@ use Rattle.std.proofs.shelf.Bits.{mul-le}
 use Rattle.std.proofs.shelf.Tests.{cases-lt}
 use Rattle.numbers.specs.Rounding.{rounded-up}
 use Rattle.numbers.proofs.Roundings.{rounded-up-mono, rounded-up-zero, rounded-up-one, rounded-up-self, last-of-period, next-period}
-use Rattle.loads.specs.Kind.{Kind, Until, horizon, largest-entry, most-work}
-use Rattle.loads.proofs.Guarded.{Formulas}
+use Rattle.loads.specs.Kind.{Kind, Until, guarded, horizon, largest-entry, most-work}
+use Rattle.loads.proofs.Guarded.{Formulas, guarded-until}
+
+-- as many periods as begin up to the horizon
+pub periods-few : (n t d : ℕ) → 1 ≤ d → n ≡ rounded-up (min t horizon) d → n ≤ horizon
+periods-few n t d low e = omega (arith, rounded-up-self (min t horizon) d low)
 
 -- work n is what n jobs come to, one in each period
 pub record Periodic (work : ℕ → ℕ) (period : ℕ) : Type 0 where
@@ -28,18 +32,16 @@ module _ (work : ℕ → ℕ) (period : ℕ) (p : Periodic work period) where
       (λ (same : n ≤ m). let e : work m ≡ work n = ap work (omega arith) in omega arith)
       (cases-lt m n)
 
-  pub periods-few : (t : ℕ) → t ≤ horizon → rounded-up t period ≤ horizon
-  periods-few t fits = omega (arith, rounded-up-self t period (p .period-low))
-
-  pub work-small : (t : ℕ) → t ≤ horizon → work (rounded-up t period) ≤ most-work
-  work-small t fits = omega (arith, p .bounded (rounded-up t period), periods-few t fits)
+  -- the work of as many jobs as periods begin up to the horizon
+  pub work-small : (n : ℕ) → n ≤ horizon → work n ≤ most-work
+  work-small n few = omega (arith, p .bounded n)
 
   module _ (k : Kind) (row : List ℕ) (asks : (t : ℕ) → k .request row t ≡ work (rounded-up t period)) where
     pub periodic-formulas : k .longest row ≡ work 1 → k .separation row ≡ period → ((i : ℕ) → i < 8 → getD row i 0 ≤ largest-entry) → Formulas k row
     periodic-formulas long apart small = record {
       starts = asks 0 ∙ ap work (rounded-up-zero period (p .period-low)) ∙ p .none;
       rises = λ t u le fits. omega (arith, asks t, asks u, rises (rounded-up t period) (rounded-up u period) (rounded-up-mono t u period (p .period-low) le));
-      bounded = λ t fits. omega (arith, asks t, work-small t fits);
+      bounded = λ t fits. omega (arith, asks t, work-small (rounded-up t period) (omega (arith, rounded-up-self t period (p .period-low))));
       longest-low = omega (arith, long, p .more 0 1 (omega arith));
       longest-high = omega (arith, long, p .bounded 1);
       separation-low = omega (arith, apart, p .period-low);
@@ -50,8 +52,8 @@ module _ (work : ℕ → ℕ) (period : ℕ) (p : Periodic work period) where
       small = small
     }
 
-    pub periodic-until : (t u : ℕ) → t ≤ horizon → u ≡ min (rounded-up t period * period) horizon → Until horizon (k .request row) t u
-    periodic-until t u fits e = record {
+    until-formulas : (t u : ℕ) → t ≤ horizon → u ≡ min (rounded-up t period * period) horizon → Until horizon (k .request row) t u
+    until-formulas t u fits e = record {
       within = omega arith;
       same =
           let at : rounded-up u period ≡ rounded-up t period = ap (λ v. rounded-up v period) e ∙ last-of-period t period horizon (p .period-low) fits in
@@ -60,3 +62,6 @@ module _ (work : ℕ → ℕ) (period : ℕ) (p : Periodic work period) where
           let later : rounded-up t period < rounded-up v period = next-period t period horizon v (p .period-low) (omega arith) within in
           omega (arith, asks v, asks t, p .more (rounded-up t period) (rounded-up v period) later)
     }
+
+    pub periodic-until : k .fault row ≡ 0 → (t u : ℕ) → u ≡ min (rounded-up (min t horizon) period * period) horizon → Until horizon (guarded k .request row) t u
+    periodic-until lawful t u e = guarded-until k row t u lawful (until-formulas (min t horizon) u (omega arith) e)

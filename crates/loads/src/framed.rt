@@ -3,7 +3,7 @@ ghost use mathlib.Core.Path.{_≡_};
 ghost use Prim.Native.Nat.{_≤_};
 ghost use Rattle.loads.specs.Codes.{framed-code};
 ghost use Rattle.loads.specs.Framed.{busiest, framed, framed-entry, framed-formulas, frames};
-ghost use Rattle.loads.specs.Kind.{horizon};
+ghost use Rattle.loads.specs.Kind.{Until, horizon};
 use super::kind::ListedKind;
 use super::kind::LoadKind;
 use super::periods::begun;
@@ -64,6 +64,14 @@ fn busiest_run(row: &Row, n: u64) -> u64
     most
 }
 
+/// The last instant up to the horizon with the same request as `t`, of a lawful row.
+fn last_with_same(row: &Row, t: u64) -> u64
+    requires { ⌜ framed-formulas .fault (now row) ≡ 0 ⌝ }
+    ensures { λ r. ⌜ Until horizon (framed .request (now (row .entry))) t r ⌝ }
+{
+    last_before_next(t, row[0])
+}
+
 pub impl LoadKind for Framed as FramedKind {
     ghost means = { λ _. framed };
 
@@ -94,7 +102,7 @@ pub impl LoadKind for Framed as FramedKind {
 
     fn until(&self, row: &Row, t: u64) -> u64 {
         match self.lawful(row) {
-            Ok(()) => last_before_next(t, row[0]),
+            Ok(()) => last_with_same(row, t),
             Err(_) => 0,
         }
     }

@@ -1,6 +1,8 @@
 //! The plain kind: a job of C ticks at most every T ticks.
+ghost use mathlib.Core.Path.{_≡_};
 ghost use Rattle.loads.specs.Codes.{plain-code};
-ghost use Rattle.loads.specs.Plain.{plain, plain-entry};
+ghost use Rattle.loads.specs.Kind.{Until, horizon};
+ghost use Rattle.loads.specs.Plain.{plain, plain-entry, plain-formulas};
 use super::kind::ListedKind;
 use super::kind::LoadKind;
 use super::periods::begun;
@@ -26,6 +28,14 @@ impl EntryRule for Plain as PlainEntries {
             entry == 0
         }
     }
+}
+
+/// The last instant up to the horizon with the same request as `t`, of a lawful row.
+fn last_with_same(row: &Row, t: u64) -> u64
+    requires { ⌜ plain-formulas .fault (now row) ≡ 0 ⌝ }
+    ensures { λ r. ⌜ Until horizon (plain .request (now (row .entry))) t r ⌝ }
+{
+    last_before_next(t, row[1])
 }
 
 pub impl LoadKind for Plain as PlainKind {
@@ -58,7 +68,7 @@ pub impl LoadKind for Plain as PlainKind {
 
     fn until(&self, row: &Row, t: u64) -> u64 {
         match self.lawful(row) {
-            Ok(()) => last_before_next(t, row[1]),
+            Ok(()) => last_with_same(row, t),
             Err(_) => 0,
         }
     }

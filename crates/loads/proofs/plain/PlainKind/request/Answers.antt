@@ -1,11 +1,6 @@
-use mathlib.Core.Path.{_≡_, ap, _∙_}
-use Prim.Native.Nat.{_*_, min}
-use lib.ListN.{getD}
+use mathlib.Core.Path.{refl}
 use borrow.Author.Needs.{needs}
-use native.Mathlib.Omega.{arith}
-use Rattle.numbers.specs.Rounding.{rounded-up}
-use Rattle.loads.specs.Kind.{horizon}
-use Rattle.loads.proofs.Periodic.{work-small}
+use Rattle.loads.proofs.Periodic.{periods-few, work-small}
 use Rattle.loads.proofs.Plains.{plain-periodic}
 use Rattle.loads.proofs.plain.PlainKind.request.Needs as need
 
@@ -14,7 +9,6 @@ begun-requires c κs = plain-periodic (c .args .row .now) (c .in-Ok .ensures tt)
 
 pub mul-result : need.mul-result
 mul-result c =
-    let row = c .args .row .now in
-    let e : c .begun .result * getD row 0 0 ≡ rounded-up (min (c .args .t) horizon) (getD row 1 0) * getD row 0 0 = ap (λ n. n * getD row 0 0) (c .begun .ensures) in
-    let small = work-small _ _ (plain-periodic row (c .in-Ok .ensures tt)) (min (c .args .t) horizon) (omega arith) in
+    let p = plain-periodic (c .args .row .now) (c .in-Ok .ensures tt) in
+    let small = work-small _ _ p (c .begun .result) (periods-few (c .begun .result) _ _ (p .period-low) (c .begun .ensures)) in
     search needs
