@@ -21,61 +21,63 @@ by-lt a b below above = ⊎-elim below above (cases-lt a b)
 at-same : (f : ℕ → ℤ) (t u : ℕ) → t ≡ u → f t ≤ℤ f u
 at-same f t u e = rw e (≤ℤ-refl (f u))
 
-largest-above : (f : ℕ → ℤ) (n t : ℕ) → 1 ≤ t → t ≤ max 1 n → f t ≤ℤ largest f n
-largest-above f zero t low high = at-same f t 1 (omega arith)
-largest-above f (suc zero) t low high = at-same f t 1 (omega arith)
-largest-above f (suc (suc n)) t low high =
-    by-lt t (suc (suc n))
-    (λ less. let h : f t ≤ℤ largest f (suc n) = largest-above f (suc n) t low (omega arith) in omega (arith, ints, clamps))
-    (λ more. let h : f t ≤ℤ f (suc (suc n)) = at-same f t (suc (suc n)) (omega arith) in omega (arith, ints, clamps))
+module _ (f : ℕ → ℤ) (a : ℕ) where
+  largest-above : (n t : ℕ) → a ≤ t → t ≤ a + n → f t ≤ℤ largest f a n
+  largest-above zero t low high = at-same f t a (omega arith)
+  largest-above (suc n) t low high =
+      by-lt t (a + suc n)
+      (λ less. let h : f t ≤ℤ largest f a n = largest-above n t low (omega arith) in omega (arith, ints, clamps))
+      (λ more. let h : f t ≤ℤ f (a + suc n) = at-same f t (a + suc n) (omega arith) in omega (arith, ints, clamps))
 
-largest-reached : (f : ℕ → ℤ) (n : ℕ) → (t : ℕ) × (1 ≤ t) × (t ≤ max 1 n) × (f t ≡ largest f n)
-largest-reached f zero = (1, omega arith, omega arith, refl)
-largest-reached f (suc zero) = (1, omega arith, omega arith, refl)
-largest-reached f (suc (suc n)) =
-    let (t, low, high, same) = largest-reached f (suc n) in
-    cond-both (ltZ (f (suc (suc n))) (largest f (suc n))) (largest f (suc n)) (f (suc (suc n))) (λ z. (t : ℕ) × (1 ≤ t) × (t ≤ max 1 (suc (suc n))) × (f t ≡ z))
-    (λ _. (t, low, omega arith, same))
-    (λ _. (suc (suc n), omega arith, omega arith, refl))
+  largest-reached : (n : ℕ) → (t : ℕ) × (a ≤ t) × (t ≤ a + n) × (f t ≡ largest f a n)
+  largest-reached zero = (a, omega arith, omega arith, refl)
+  largest-reached (suc n) =
+      let (t, low, high, same) = largest-reached n in
+      cond-both (ltZ (f (a + suc n)) (largest f a n)) (largest f a n) (f (a + suc n)) (λ z. (t : ℕ) × (a ≤ t) × (t ≤ a + suc n) × (f t ≡ z))
+      (λ _. (t, low, omega arith, same))
+      (λ _. (a + suc n, omega arith, omega arith, refl))
 
--- the definition meets the relation, and nothing else does
-pub largest-is : (f : ℕ → ℤ) (n : ℕ) → Largest f n (largest f n)
-largest-is f n = record { reached = largest-reached f n; above = largest-above f n }
+  -- the definition meets the relation, and nothing else does
+  pub largest-is : (b : ℕ) → Largest f a b (largest f a (b - a))
+  largest-is b =
+      let (t, low, high, same) = largest-reached (b - a) in
+      record { reached = (t, low, omega arith, same); above = λ u l h. largest-above (b - a) u l (omega arith) }
 
-pub largest-unique : (f : ℕ → ℤ) (n : ℕ) (z : ℤ) → Largest f n z → z ≡ largest f n
-largest-unique f n z l =
-    let (t, low, high, same) = l .reached in
-    let (u, low′, high′, same′) = largest-reached f n in
-    let under = largest-above f n t low high in
-    let over = l .above u low′ high′ in
-    omega (arith, ints)
+  pub largest-unique : (b : ℕ) (z : ℤ) → Largest f a b z → z ≡ largest f a (b - a)
+  largest-unique b z l =
+      let (t, low, high, same) = l .reached in
+      let (u, low′, high′, same′) = largest-reached (b - a) in
+      let under = largest-above (b - a) t low (omega arith) in
+      let over = l .above u low′ (omega arith) in
+      omega (arith, ints)
 
--- a first stretch whose last instant has the most
-pub largest-first : (f : ℕ → ℤ) (u : ℕ) → 1 ≤ u → ((v : ℕ) → 1 ≤ v → v ≤ u → f v ≤ℤ f u) → f u ≡ largest f u
-largest-first f u low top =
-    largest-unique f u (f u) (record { reached = (u, low, omega arith, refl); above = λ t a b. top t a (omega arith) })
+  -- a first stretch whose last instant has the most
+  pub largest-first : (u : ℕ) → a ≤ u → ((v : ℕ) → a ≤ v → v ≤ u → f v ≤ℤ f u) → Largest f a u (f u)
+  largest-first u low top = record { reached = (u, low, omega arith, refl); above = λ t l h. top t l (omega arith) }
 
--- one more stretch whose last instant has the most of it
-pub largest-next : (f : ℕ → ℤ) (t u : ℕ) → 1 ≤ t → t < u → ((v : ℕ) → t < v → v ≤ u → f v ≤ℤ f u) → maxZ (largest f t) (f u) ≡ largest f u
-largest-next f t u low h top =
-    let (v, vl, vh, same) = largest-reached f u in
-    let (w, wl, wh, same′) = largest-reached f t in
-    let over = largest-above f u u (omega arith) (omega arith) in
-    let over′ = largest-above f u w wl (omega arith) in
-    by-lt t v
-    (λ a. let under = top v a (omega arith) in omega (arith, ints, clamps))
-    (λ a. let under = largest-above f t v vl (omega arith) in omega (arith, ints, clamps))
+  -- one more stretch, after t, whose last instant has the most of it
+  pub largest-next : (t u : ℕ) (z : ℤ) → a ≤ t → t < u → Largest f a t z → ((v : ℕ) → t < v → v ≤ u → f v ≤ℤ f u) → Largest f a u (maxZ z (f u))
+  largest-next t u z low h l top =
+      let (w, wl, wh, same) = l .reached in
+      record {
+        reached = cond-both (ltZ (f u) z) z (f u) (λ y. (v : ℕ) × (a ≤ v) × (v ≤ max a u) × (f v ≡ y))
+            (λ _. (w, wl, omega arith, same))
+            (λ _. (u, omega arith, omega arith, refl));
+        above = λ v vl vh. by-lt t v
+            (λ more. let under = top v more (omega arith) in omega (arith, ints, clamps))
+            (λ less. let under = l .above v vl (omega arith) in omega (arith, ints, clamps))
+      }
 
--- where no later instant has more, the range may be cut off
-pub largest-cut : (f : ℕ → ℤ) (n m : ℕ) → 1 ≤ m → m ≤ max 1 n → ((v : ℕ) → m < v → f v ≤ℤ f m) → largest f m ≡ largest f n
-largest-cut f n m low high top =
-    let (t, tl, th, same) = largest-reached f m in
-    largest-unique f n (largest f m) (record {
-      reached = (t, tl, omega arith, same);
-      above = λ v a b. by-lt m v
-          (λ more. let under = top v more in let over = largest-above f m m low (omega arith) in omega (arith, ints))
-          (λ less. largest-above f m v a (omega arith))
-    })
+  -- where no later instant has more, the range may be cut off
+  pub largest-cut : (b m : ℕ) (z : ℤ) → a ≤ m → m ≤ max a b → Largest f a m z → ((v : ℕ) → m < v → f v ≤ℤ f m) → Largest f a b z
+  largest-cut b m z low high l top =
+      let (t, tl, th, same) = l .reached in
+      record {
+        reached = (t, tl, omega arith, same);
+        above = λ v vl vh. by-lt m v
+            (λ more. let under = top v more in let over = l .above m low (omega arith) in omega (arith, ints))
+            (λ less. l .above v vl (omega arith))
+      }
 
 -- ---- the first hit
 

@@ -1,5 +1,5 @@
 -- What is left over, stretch by stretch: over a stretch the last instant leaves the most, and past the last instant none leaves more.
-use mathlib.Core.Path.{_≡_, refl, sym, ap, _∙_}
+use mathlib.Core.Path.{_≡_, sym, ap, subst, _∙_}
 use mathlib.Core.List.{List}
 use mathlib.Core.Logic.{⊎-elim}
 use Prim.Native.Nat.{ℕ, max, min, _+_, _≤_, _<_}
@@ -13,7 +13,7 @@ use Rattle.loads.specs.Kind.{Kind, Until}
 use Rattle.loads.specs.Kind.{Laws as Kind-laws}
 use Rattle.supplies.specs.Supplied.{last-instant}
 use Rattle.supplies.specs.Supplied.{Laws as Supply-laws}
-use Rattle.analysis.specs.Extremes.{largest}
+use Rattle.analysis.specs.Extremes.{Largest}
 use Rattle.analysis.specs.Instants.{requests, left-over}
 use Rattle.analysis.proofs.Extremes.{largest-first, largest-next, largest-cut}
 use Rattle.analysis.proofs.Stretches.{until-after, flat}
@@ -26,7 +26,7 @@ module _ (k : Kind) (kind : Kind-laws k) (s : ℕ → ℕ) (supply : Supply-laws
 
   -- a stretch from t to e, and what is left at its end
   module _ (last t e asked : ℕ) (z : ℤ) (within : t ≤ last) (l : Until last (requests k above) t e) (asks : asked ≡ requests k above t) (leaves : z ≡ pos (s e) -ℤ pos (longest + asked)) where
-    pub end-after : t ≤ e
+    end-after : t ≤ e
     end-after = until-after last (requests k above) t e within l
 
     left-is : z ≡ left e
@@ -39,21 +39,23 @@ module _ (k : Kind) (kind : Kind-laws k) (s : ℕ → ℕ) (supply : Supply-laws
         let more = supply-rises s supply v e high in
         omega (arith, ints)
 
-    pub first-stretch : t ≡ 1 → z ≡ largest left e
-    first-stretch one = left-is ∙ largest-first left e (omega (arith, end-after)) (λ v low high. top v (omega arith) high)
+    -- the first stretch
+    pub first-stretch : (t ≤ e) × (e ≤ last) × Largest left t e z
+    first-stretch = (end-after, l .within, subst (Largest left t e) (sym left-is) (largest-first left t e end-after top))
 
-    pub next-stretch : (d : ℕ) (most : ℤ) → 1 ≤ d → t ≡ d + 1 → most ≡ largest left d → maxZ most z ≡ largest left e
-    next-stretch d most some next so-far =
-        ap (λ m. maxZ m z) so-far ∙ ap (maxZ (largest left d)) left-is ∙ largest-next left d e some (omega (arith, end-after)) (λ v low high. top v (omega arith) high)
+    -- one more stretch, after d
+    pub next-stretch : (a d : ℕ) (most : ℤ) → a ≤ d → t ≡ d + 1 → Largest left a d most → (a ≤ e) × (e ≤ last) × Largest left a e (maxZ most z)
+    next-stretch a d most low next so-far =
+        (omega (arith, end-after), l .within, subst (λ y. Largest left a e (maxZ most y)) (sym left-is)
+            (largest-next left a d e most low (omega (arith, end-after)) so-far (λ v below high. top v (omega arith) high)))
 
-  pub whole-range : (deadline end : ℕ) → end ≡ max 1 (min deadline last-instant) → largest left end ≡ largest left deadline
-  whole-range deadline end is =
+  -- past the last instant none leaves more
+  pub whole-range : (a b end : ℕ) (most : ℤ) → a ≤ last-instant → end ≡ max (min b last-instant) a → Largest left a end most → Largest left a b most
+  whole-range a b end most early is l =
       ⊎-elim
-      (λ (early : deadline < last-instant). ⊎-elim
-          (λ (none : deadline < 1). let e : end ≡ 1 = omega arith in let d : deadline ≡ 0 = omega arith in rw (e, d) refl)
-          (λ (some : 1 ≤ deadline). let same : end ≡ deadline = omega arith in ap (largest left) same)
-          (cases-lt deadline 1))
-      (λ (late : last-instant ≤ deadline).
-          largest-cut left deadline end (omega arith) (omega arith)
+      (λ (before : b < last-instant).
+          record { reached = let (t, low, high, same) = l .reached in (t, low, omega arith, same); above = λ t low high. l .above t low (omega arith) })
+      (λ (late : last-instant ≤ b).
+          largest-cut left a b end most (omega arith) (omega arith) l
           (λ v past. let no-more = supply-last s supply v in let same : s end ≡ s last-instant = ap s (omega arith) in let more = requests-rise k kind above end v (omega arith) in omega (arith, ints)))
-      (cases-lt deadline last-instant)
+      (cases-lt b last-instant)

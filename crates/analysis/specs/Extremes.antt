@@ -1,23 +1,22 @@
 -- The largest value and the first hit over a range of instants.
 use mathlib.Core.Path.{_≡_}
 use mathlib.Core.Bool.{Bool, true, false}
-use Prim.Native.Nat.{ℕ, zero, suc, _≤_, _<_, max}
+use Prim.Native.Nat.{ℕ, zero, suc, _+_, _≤_, _<_, max}
 use lib.IntN.{ℤ}
 use lib.Signed.{_≤ℤ_}
 use Rattle.std.specs.Numbers.{maxZ}
 use Rattle.std.specs.declared.option.Option.{Option}
 use Rattle.std.specs.declared.option.Option.the-variants.{Some, None}
 
--- the largest value of f at an instant from 1 to n; n counts as 1 where it is 0
-abbrev pub largest : (ℕ → ℤ) → ℕ → ℤ
-largest f zero = f 1
-largest f (suc zero) = f 1
-largest f (suc (suc n)) = maxZ (largest f (suc n)) (f (suc (suc n)))
+-- the largest value of f at an instant from a to a + n
+abbrev pub largest : (ℕ → ℤ) → ℕ → ℕ → ℤ
+largest f a zero = f a
+largest f a (suc n) = maxZ (largest f a n) (f (a + suc n))
 
--- z is the value of f at some instant from 1 to n, and no such instant has a larger one
-pub record Largest (f : ℕ → ℤ) (n : ℕ) (z : ℤ) : Type 0 where
-  pub reached : (t : ℕ) × (1 ≤ t) × (t ≤ max 1 n) × (f t ≡ z)
-  pub above : (t : ℕ) → 1 ≤ t → t ≤ max 1 n → f t ≤ℤ z
+-- z is the value of f at some instant from a to b, and no such instant has a larger one; b counts as a where it is less
+pub record Largest (f : ℕ → ℤ) (a b : ℕ) (z : ℤ) : Type 0 where
+  pub reached : (t : ℕ) × (a ≤ t) × (t ≤ max a b) × (f t ≡ z)
+  pub above : (t : ℕ) → a ≤ t → t ≤ max a b → f t ≤ℤ z
 
 -- the first of n instants from t on that passes the test, none where none does
 abbrev pub first : (ℕ → Bool) → ℕ → ℕ → Option ℕ

@@ -1,7 +1,7 @@
 -- Work, slack and first instants of a task below others, for any load kind and any supply.
 use mathlib.Core.Bool.{Bool}
 use mathlib.Core.List.{List}
-use Prim.Native.Nat.{ℕ, _+_}
+use Prim.Native.Nat.{ℕ, _+_, _-_}
 use lib.Dec.{leb}
 use lib.IntN.{ℤ, pos, _-ℤ_}
 use Rattle.std.specs.declared.option.Option.{Option}
@@ -18,9 +18,9 @@ module _ (k : Kind) (s : ℕ → ℕ) (above : List (List ℕ)) where
   abbrev pub left-over : ℕ → ℕ → ℤ
   left-over longest t = pos (s t) -ℤ pos (longest + requests k above t)
 
-  -- the most that is left over at an instant up to the deadline
+  -- the most that is left over at an instant from 1 to the deadline
   abbrev pub slack-of : ℕ → ℕ → ℤ
-  slack-of longest deadline = largest (left-over longest) deadline
+  slack-of longest deadline = largest (left-over longest) 1 (deadline - 1)
 
   -- the supply at t covers base and all that the rows above can ask for
   abbrev pub served : ℕ → ℕ → Bool

@@ -1,10 +1,10 @@
 //! Slack: the most that the supply leaves over at an instant up to the deadline.
 ghost use mathlib.Core.Path.{_≡_};
-ghost use Prim.Native.Nat.{_≤_, _^_, _+_};
+ghost use Prim.Native.Nat.{_≤_, _^_, _+_, _-_};
 ghost use lib.IntN.{pos, _-ℤ_};
 ghost use Rattle.loads.specs.Kind.{Until};
 ghost use Rattle.supplies.specs.Supplied.{last-instant};
-ghost use Rattle.analysis.specs.Extremes.{Largest};
+ghost use Rattle.analysis.specs.Extremes.{Largest, largest};
 ghost use Rattle.analysis.specs.Instants.{left-over, requests, slack-of};
 use loads::LoadKind;
 use loads::Row;
@@ -52,18 +52,27 @@ fn left_at_end<S: Supply>(supply: &S, stretch: Stretch, longest: u64) -> i128
     i128::from(supply.supplied(stretch.end)) - work as i128
 }
 
-/// The slack of a task with this longest job and deadline below the rows above it: the most that the supply leaves over at an
-/// instant from 1 to the deadline. A deadline of 0 counts as 1.
-pub fn slack<K: LoadKind, S: Supply>(kind: &K, supply: &S, above: &[Row], longest: u64, deadline: u64) -> i128
-    ensures is { λ r. ⌜ r ≡ slack-of (K·LoadKind .means (now (kind .entry))) (S·Supply .gives (now (supply .entry))) (now (above .entry)) longest deadline ⌝ }
-    ensures largest { λ r. ⌜ Largest (left-over (K·LoadKind .means (now (kind .entry))) (S·Supply .gives (now (supply .entry))) (now (above .entry)) longest) deadline r ⌝ }
+/// The most that the supply leaves over at an instant from `from` to `last`, after one job of `longest` ticks.
+fn most_left<K: LoadKind, S: Supply>(kind: &K, supply: &S, above: &[Row], longest: u64, from: u64, last: u64) -> i128
+    requires { ⌜ 1 ≤ from ⌝ ∗ ⌜ from ≤ last-instant ⌝ }
+    ensures is { λ r. ⌜ r ≡ largest (left-over (K·LoadKind .means (now (kind .entry))) (S·Supply .gives (now (supply .entry))) (now (above .entry)) longest) from (last - from) ⌝ }
+    ensures greatest { λ r. ⌜ Largest (left-over (K·LoadKind .means (now (kind .entry))) (S·Supply .gives (now (supply .entry))) (now (above .entry)) longest) from last r ⌝ }
 {
-    let last = deadline.clamp(1, LAST_INSTANT);
-    let mut stretch = stretch_at(kind, above, 1, last);
+    let last = last.min(LAST_INSTANT).max(from);
+    let mut stretch = stretch_at(kind, above, from, last);
     let mut most: i128 = left_at_end(supply, stretch, longest);
     while stretch.end < last {
         stretch = stretch_at(kind, above, stretch.end + 1, last);
         most = most.max(left_at_end(supply, stretch, longest));
     }
     most
+}
+
+/// The slack of a task with this longest job and deadline below the rows above it: the most that the supply leaves over at an
+/// instant from 1 to the deadline. A deadline of 0 counts as 1.
+pub fn slack<K: LoadKind, S: Supply>(kind: &K, supply: &S, above: &[Row], longest: u64, deadline: u64) -> i128
+    ensures is { λ r. ⌜ r ≡ slack-of (K·LoadKind .means (now (kind .entry))) (S·Supply .gives (now (supply .entry))) (now (above .entry)) longest deadline ⌝ }
+    ensures greatest { λ r. ⌜ Largest (left-over (K·LoadKind .means (now (kind .entry))) (S·Supply .gives (now (supply .entry))) (now (above .entry)) longest) 1 deadline r ⌝ }
+{
+    most_left(kind, supply, above, longest, 1, deadline)
 }

@@ -14,6 +14,9 @@ use super::rows::Row;
 use super::rows::RowFault;
 use super::rows::judge;
 
+/// The code of the framed kind on sheets.
+const CODE: u64 = 2;
+
 /// The most frames that a cycle can have.
 const MOST_FRAMES: u64 = 5;
 
@@ -112,6 +115,6 @@ pub impl ListedKind for Framed as FramedListed {
     ghost coded = { λ _. framed-code };
 
     fn code(&self) -> u64 {
-        2
+        CODE
     }
 }

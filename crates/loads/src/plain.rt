@@ -13,6 +13,9 @@ use super::rows::Row;
 use super::rows::RowFault;
 use super::rows::judge;
 
+/// The code of the plain kind on sheets.
+const CODE: u64 = 1;
+
 /// Entry 1 is C, entry 2 is T, and the others are 0.
 #[derive(Clone, Copy)]
 pub struct Plain;
@@ -78,6 +81,6 @@ pub impl ListedKind for Plain as PlainListed {
     ghost coded = { λ _. plain-code };
 
     fn code(&self) -> u64 {
-        1
+        CODE
     }
 }

@@ -1,3 +1,4 @@
 pub mod Supplied
 pub mod Shares
 pub mod Refusals
+pub mod Codes

@@ -2,12 +2,16 @@
 ghost use mathlib.Core.Path.{_≡_};
 ghost use Prim.Native.Nat.{_≤_};
 ghost use Rattle.std.specs.Results.{Cases};
+ghost use Rattle.supplies.specs.Codes.{share-code};
 ghost use Rattle.supplies.specs.Shares.{Lawful-share, share};
 ghost use Rattle.supplies.specs.Supplied.{last-instant};
 use super::fault::SupplyFault;
 use super::supply::LAST_INSTANT;
 use super::supply::ListedSupply;
 use super::supply::Supply;
+
+/// The code of a share on sheets.
+const CODE: u64 = 2;
 
 /// `budget` ticks of each `period`, at the worst time.
 #[derive(Clone, Copy)]
@@ -65,12 +69,12 @@ pub impl Supply for Share as ShareSupply {
 }
 
 pub impl ListedSupply for Share as ShareListed {
-    ghost coded = { λ _. 2 };
+    ghost coded = { λ _. share-code };
 
     ghost numbered = { λ s. (s .budget, s .period) };
 
     fn code(&self) -> u64 {
-        2
+        CODE
     }
 
     fn numbers(&self) -> (u64, u64) {

@@ -1,8 +1,12 @@
 //! The whole processor.
+ghost use Rattle.supplies.specs.Codes.{no-numbers, whole-code};
 ghost use Rattle.supplies.specs.Supplied.{whole};
 use super::supply::LAST_INSTANT;
 use super::supply::ListedSupply;
 use super::supply::Supply;
+
+/// The code of the whole processor on sheets.
+const CODE: u64 = 1;
 
 /// All of the time.
 #[derive(Clone, Copy)]
@@ -21,12 +25,12 @@ pub impl Supply for Whole as WholeSupply {
 }
 
 pub impl ListedSupply for Whole as WholeListed {
-    ghost coded = { λ _. 1 };
+    ghost coded = { λ _. whole-code };
 
-    ghost numbered = { λ _. (0, 0) };
+    ghost numbered = { λ _. no-numbers };
 
     fn code(&self) -> u64 {
-        1
+        CODE
     }
 
     fn numbers(&self) -> (u64, u64) {
