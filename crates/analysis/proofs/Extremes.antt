@@ -65,7 +65,7 @@ module _ (f : ℕ → ℤ) (a : ℕ) where
             (λ _. (u, omega arith, omega arith, refl));
         above = λ v vl vh. by-lt t v
             (λ more. let under = top v more (omega arith) in omega (arith, ints, clamps))
-            (λ less. let under = l .above v vl (omega arith) in omega (arith, ints, clamps))
+            (λ less. let under = l .above v vl (omega arith) in omega (arith, ints, clamps));
       }
 
   -- where no later instant has more, the range may be cut off
@@ -76,7 +76,7 @@ module _ (f : ℕ → ℤ) (a : ℕ) where
         reached = (t, tl, omega arith, same);
         above = λ v vl vh. by-lt m v
             (λ more. let under = top v more in let over = l .above m low (omega arith) in omega (arith, ints))
-            (λ less. l .above v vl (omega arith))
+            (λ less. l .above v vl (omega arith));
       }
 
 -- ---- the first hit

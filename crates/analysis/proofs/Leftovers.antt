@@ -45,17 +45,20 @@ module _ (k : Kind) (kind : Kind-laws k) (s : ℕ → ℕ) (supply : Supply-laws
 
     -- one more stretch, after d
     pub next-stretch : (a d : ℕ) (most : ℤ) → a ≤ d → t ≡ d + 1 → Largest left a d most → (a ≤ e) × (e ≤ last) × Largest left a e (maxZ most z)
-    next-stretch a d most low next so-far =
-        (omega (arith, end-after), l .within, subst (λ y. Largest left a e (maxZ most y)) (sym left-is)
-            (largest-next left a d e most low (omega (arith, end-after)) so-far (λ v below high. top v (omega arith) high)))
+    next-stretch a d most low next so-far = (
+      omega (arith, end-after),
+      l .within,
+      subst (λ y. Largest left a e (maxZ most y)) (sym left-is)
+          (largest-next left a d e most low (omega (arith, end-after)) so-far (λ v below high. top v (omega arith) high)),
+    )
 
   -- past the last instant none leaves more
   pub whole-range : (a b end : ℕ) (most : ℤ) → a ≤ last-instant → end ≡ max (min b last-instant) a → Largest left a end most → Largest left a b most
   whole-range a b end most early is l =
       ⊎-elim
       (λ (before : b < last-instant).
-          record { reached = let (t, low, high, same) = l .reached in (t, low, omega arith, same); above = λ t low high. l .above t low (omega arith) })
+      record { reached = let (t, low, high, same) = l .reached in (t, low, omega arith, same); above = λ t low high. l .above t low (omega arith) })
       (λ (late : last-instant ≤ b).
-          largest-cut left a b end most (omega arith) (omega arith) l
-          (λ v past. let no-more = supply-last s supply v in let same : s end ≡ s last-instant = ap s (omega arith) in let more = requests-rise k kind above end v (omega arith) in omega (arith, ints)))
+      largest-cut left a b end most (omega arith) (omega arith) l
+      (λ v past. let no-more = supply-last s supply v in let same : s end ≡ s last-instant = ap s (omega arith) in let more = requests-rise k kind above end v (omega arith) in omega (arith, ints)))
       (cases-lt b last-instant)

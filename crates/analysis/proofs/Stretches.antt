@@ -36,7 +36,7 @@ pub until-same : (limit : ℕ) (f g : ℕ → ℕ) (t u : ℕ) → ((v : ℕ) �
 until-same limit f g t u same l = record {
   within = l .within;
   same = sym (same u) ∙ l .same ∙ same t;
-  greatest = λ v above within e. l .greatest v above within (same v ∙ e ∙ sym (same t))
+  greatest = λ v above within e. l .greatest v above within (same v ∙ e ∙ sym (same t));
 }
 
 -- nothing asked for never changes
@@ -55,7 +55,7 @@ until-both f r f-rising r-rising last t e u within l m =
           ⊎-elim
           (λ (past : e < v). omega (arith, beyond f f-rising last t e within l v past within′, r-rising t v (omega arith)))
           (λ (more : v ≤ e). omega (arith, beyond r r-rising last t u within m v (omega arith) within′, f-rising t v (omega arith)))
-          (cases-lt e v)
+          (cases-lt e v);
     }
 
 module _ (k : Kind) (laws : Laws k) where
@@ -80,11 +80,11 @@ module _ (k : Kind) (laws : Laws k) where
     changes-later after =
         ⊎-elim
         (λ (yes′ : k .fault row ≡ 0).
-            let l = lawful yes′ in
-            record {
-              within = omega arith;
-              same = flat (k .request row) (request-rises k laws row) horizon t u (omega arith) l (min u last) (omega arith) (omega arith);
-              greatest = λ v above within′ same. l .greatest v (omega arith) (omega arith) same
-            })
+        let l = lawful yes′ in
+        record {
+          within = omega arith;
+          same = flat (k .request row) (request-rises k laws row) horizon t u (omega arith) l (min u last) (omega arith) (omega arith);
+          greatest = λ v above within′ same. l .greatest v (omega arith) (omega arith) same;
+        })
         (λ (no′ : k .fault row ≡ 0 → ⊥). absurd (omega (arith, unlawful no′)))
         (cases-eq (k .fault row) 0)

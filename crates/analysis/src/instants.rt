@@ -8,9 +8,15 @@ use supplies::LAST_INSTANT;
 use supplies::Supply;
 
 /// The first instant from 1 to `last` at which the supply covers `base` and all that the rows above can ask for, or none.
-pub fn first_instant<K: LoadKind, S: Supply>(kind: &K, supply: &S, above: &[Row], base: u64, last: u64) -> Option<u64>
-    ensures is { λ r. ⌜ r ≡ first-served (K·LoadKind .means (now (kind .entry))) (S·Supply .gives (now (supply .entry))) (now (above .entry)) base last ⌝ }
-    ensures earliest { λ r. ⌜ Earliest (served (K·LoadKind .means (now (kind .entry))) (S·Supply .gives (now (supply .entry))) (now (above .entry)) base) last r ⌝ }
+pub fn first_instant<K: LoadKind, S: Supply>(
+    kind: &K,
+    supply: &S,
+    above: &[Row],
+    base: u64,
+    last: u64,
+) -> Option<u64>
+    ensures is { λ r. ⌜ r ≡ first-served (means (now (kind .entry))) (gives (now (supply .entry))) (now (above .entry)) base last ⌝ }
+    ensures earliest { λ r. ⌜ Earliest (served (means (now (kind .entry))) (gives (now (supply .entry))) (now (above .entry)) base) last r ⌝ }
 {
     let mut t: u64 = 1;
     'instants: loop {

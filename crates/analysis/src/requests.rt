@@ -7,7 +7,7 @@ use loads::Row;
 
 /// The most work that the rows can ask for in `t` ticks, together.
 pub fn requested<K: LoadKind>(kind: &K, rows: &[Row], t: u64) -> u128
-    ensures is { λ r. ⌜ r ≡ requests (K·LoadKind .means (now (kind .entry))) (now (rows .entry)) t ⌝ }
+    ensures is { λ r. ⌜ r ≡ requests (means (now (kind .entry))) (now (rows .entry)) t ⌝ }
     ensures small { λ r. ⌜ r ≤ 2 ^ 105 ⌝ }
 {
     let mut sum: u128 = 0;

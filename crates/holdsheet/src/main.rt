@@ -24,18 +24,27 @@ fn judge(rt: &impl Print, above: &[Row], row: &Row, deadline: u64) -> Result<(),
     let slack = slack(&Plain, &Whole, above, longest, deadline);
     let work = u128::from(longest) + requested(&Plain, above, deadline);
     let supplied = Whole.supplied(deadline);
-    println!(rt, "Position {position}: jobs of {longest} ticks, {separation} apart, deadline {deadline}.")?;
+    println!(
+        rt,
+        "Position {position}: jobs of {longest} ticks, {separation} apart, deadline {deadline}."
+    )?;
     println!(rt, "  Slack: {slack}.")?;
     match first_instant(&Plain, &Whole, above, longest, deadline) {
         Some(instant) => println!(rt, "  First instant: {instant}, so the task is served.")?,
         None => println!(rt, "  First instant: none, so the task is not served.")?,
     }
-    println!(rt, "  At the deadline itself the work adds up to {work}, and {supplied} ticks are supplied.")?;
+    println!(
+        rt,
+        "  At the deadline itself the work adds up to {work}, and {supplied} ticks are supplied."
+    )?;
     Ok(())
 }
 
 fn run(rt: &impl Print) -> Result<(), AnyError> {
-    println!(rt, "Two plain tasks on the whole processor, the most urgent first.")?;
+    println!(
+        rt,
+        "Two plain tasks on the whole processor, the most urgent first."
+    )?;
     for index in 0..2 {
         judge(rt, &ROWS[0..index], &ROWS[index], DEADLINES[index])?;
     }

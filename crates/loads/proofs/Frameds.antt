@@ -43,7 +43,7 @@ module _ (row : List ℕ) (lawful : framed-formulas .fault row ≡ 0) where
     none = omega (arith, largest-of-high (λ s. frames row s 0) (frame-count row) 0 (λ s. omega arith));
     more = λ m n less. largest-of-lt (λ s. frames row s m) (λ s. frames row s n) (frame-count row) count-low
         (λ s. frames-lt row (λ j. entry-low (j % frame-count row) (place j)) s m n less);
-    bounded = λ n. largest-of-high (λ s. frames row s n) (frame-count row) (n * largest-entry) (λ s. frames-high row largest-entry frame-high s n)
+    bounded = λ n. largest-of-high (λ s. frames row s n) (frame-count row) (n * largest-entry) (λ s. frames-high row largest-entry frame-high s n);
   }
 
   framed-lawful : Formulas framed-formulas row

@@ -43,14 +43,14 @@ module _ (k : Kind) (row : List ℕ) where
         first-job = λ t low high.
             let here : k .request row (min t horizon) ≡ k .request row t = ap (k .request row) (omega (arith, apart, f .separation-high)) in
             omega (arith, at t, long, f .first-job t low (omega arith));
-        small = f .small
+        small = f .small;
       }
 
   guarded-no-load : k .fault row ≢ 0 → No-load (guarded k) row
   guarded-no-load e = record {
     no-request = λ t. unlawful-is k row (k .request row (min t horizon)) e;
     no-longest = unlawful-is k row (k .longest row) e;
-    no-separation = unlawful-is k row (k .separation row) e
+    no-separation = unlawful-is k row (k .separation row) e;
   }
 
 pub guarded-laws : (k : Kind) → ((row : List ℕ) → k .fault row ≡ 0 → Formulas k row) → ((row : List ℕ) → k .fault row ≤ 8) → Laws (guarded k)
@@ -58,7 +58,7 @@ guarded-laws k formulas entry = record {
   lawful = λ row e. guarded-load k row e (formulas row e);
   unlawful = guarded-no-load k;
   entry = entry;
-  late = λ row t. ap (λ u. if-lawful k row (k .request row u)) (omega arith)
+  late = λ row t. ap (λ u. if-lawful k row (k .request row u)) (omega arith);
 }
 
 -- an instant is the last one with its request if it is so by the formulas
@@ -69,5 +69,5 @@ guarded-until k row t u e l =
     record {
       within = l .within;
       same = omega (arith, at u, at t, inside u (l .within), l .same);
-      greatest = λ v above fits same. l .greatest v above fits (omega (arith, at v, at t, inside v fits))
+      greatest = λ v above fits same. l .greatest v above fits (omega (arith, at v, at t, inside v fits));
     }

@@ -61,7 +61,7 @@ module _ (k : Kind) (laws : Laws k) where
           small = λ i less. ⊎-elim
               (λ (e : i ≡ 7). let z : getD row i 0 ≡ jitter row = ap (λ x. getD row x 0) e in omega (arith, load .separation-high))
               (λ (n : i ≡ 7 → ⊥). let same : getD (row-below row) i 0 ≡ getD row i 0 = getD-set-other row 7 i 0 0 n in omega (arith, load .small i less))
-              (cases-eq i 7)
+              (cases-eq i 7);
         }
 
     -- nothing is asked for at 0, and something at every later instant
@@ -73,7 +73,7 @@ module _ (k : Kind) (laws : Laws k) where
           within = omega arith;
           same = ap asks (sym z);
           greatest = λ v above fits same.
-              omega (arith, ap asks z, f .rises 1 v above fits, f .first-job 1 (omega arith) (f .separation-low), f .longest-low)
+              omega (arith, ap asks z, f .rises 1 v above fits, f .first-job 1 (omega arith) (f .separation-low), f .longest-low);
         })
 
     -- what the kind below answers of the row that it gets
@@ -107,7 +107,7 @@ module _ (k : Kind) (laws : Laws k) where
                 let back : k .request (row-below row) (u - jitter row + jitter row) ≡ k .request (row-below row) u = ap (k .request (row-below row)) (omega arith) in
                 omega (arith, asks-is (u - jitter row) (omega arith), lasts .same);
             greatest = λ v above fits same.
-                changed (v + jitter row) (omega arith) (omega (arith, asks-is v (omega arith)))
+                changed (v + jitter row) (omega arith) (omega (arith, asks-is v (omega arith)));
           })
 
   pub jittered-laws : Laws (jittered k)

@@ -33,10 +33,10 @@ module _ (p : ℕ → Bool) where
       ⊎-elim
       (λ (less : i < n). ap (λ m. or-entry m (p n) n) (lowest-first n i less fails below))
       (λ (more : n ≤ i).
-          let same : i ≡ n = omega arith in
-          let before : lowest p n ≡ 0 = lowest-all n (λ j u. below j (omega arith)) in
-          let here : p n ≡ false = ap p (omega arith) ∙ fails in
-          ap (λ m. or-entry m (p n) n) before ∙ ap (λ b. or-entry 0 b n) here ∙ ap suc (omega arith))
+      let same : i ≡ n = omega arith in
+      let before : lowest p n ≡ 0 = lowest-all n (λ j u. below j (omega arith)) in
+      let here : p n ≡ false = ap p (omega arith) ∙ fails in
+      ap (λ m. or-entry m (p n) n) before ∙ ap (λ b. or-entry 0 b n) here ∙ ap suc (omega arith))
       (cases-lt i n)
 
   pub lowest-passes : (n : ℕ) → lowest p n ≡ 0 → (i : ℕ) → i < n → p i ≡ true

@@ -49,7 +49,7 @@ module _ (work : ℕ → ℕ) (period : ℕ) (p : Periodic work period) where
       first-job = λ t low high.
           let one : work (rounded-up t period) ≡ work 1 = ap work (rounded-up-one t period low (omega (arith, apart))) in
           omega (arith, asks t, long);
-      small = small
+      small = small;
     }
 
     until-formulas : (t u : ℕ) → t ≤ horizon → u ≡ min (rounded-up t period * period) horizon → Until horizon (k .request row) t u
@@ -60,7 +60,7 @@ module _ (work : ℕ → ℕ) (period : ℕ) (p : Periodic work period) where
           omega (arith, asks u, asks t, ap work at);
       greatest = λ v above within same.
           let later : rounded-up t period < rounded-up v period = next-period t period horizon v (p .period-low) (omega arith) within in
-          omega (arith, asks v, asks t, p .more (rounded-up t period) (rounded-up v period) later)
+          omega (arith, asks v, asks t, p .more (rounded-up t period) (rounded-up v period) later);
     }
 
     pub periodic-until : k .fault row ≡ 0 → (t u : ℕ) → u ≡ min (rounded-up (min t horizon) period * period) horizon → Until horizon (guarded k .request row) t u

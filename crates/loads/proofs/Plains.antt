@@ -26,7 +26,7 @@ module _ (row : List ℕ) (lawful : plain-formulas .fault row ≡ 0) where
     period-high = high 1 (omega arith);
     none = zero-mul (getD row 0 0);
     more = λ m n less. mul-lt-mul-of-pos-right less (low 0 (omega arith));
-    bounded = λ n. mul-le n (getD row 0 0) n largest-entry (omega arith) (high 0 (omega arith))
+    bounded = λ n. mul-le n (getD row 0 0) n largest-entry (omega arith) (high 0 (omega arith));
   }
 
   plain-lawful : Formulas plain-formulas row

@@ -42,7 +42,7 @@ framed-formulas = record {
   fault = λ row. lowest (framed-entry row) 8;
   request = λ row t. busiest row (rounded-up t (getD row 0 0));
   longest = λ row. largest-of (frame row) (frame-count row);
-  separation = λ row. getD row 0 0
+  separation = λ row. getD row 0 0;
 }
 
 abbrev pub framed : Kind

@@ -23,7 +23,7 @@ jittered-formulas k = record {
   fault = jittered-fault k;
   request = λ row t. cond (eqb t 0) 0 (k .request (row-below row) (t + jitter row));
   longest = λ row. k .longest (row-below row);
-  separation = λ row. k .separation (row-below row) - jitter row
+  separation = λ row. k .separation (row-below row) - jitter row;
 }
 
 abbrev pub jittered : Kind → Kind

@@ -71,5 +71,5 @@ guarded k = record {
   fault = k .fault;
   request = λ row t. if-lawful k row (k .request row (min t horizon));
   longest = λ row. if-lawful k row (k .longest row);
-  separation = λ row. if-lawful k row (k .separation row)
+  separation = λ row. if-lawful k row (k .separation row);
 }

@@ -19,7 +19,7 @@ plain-formulas = record {
   fault = λ row. lowest (plain-entry row) 8;
   request = λ row t. rounded-up t (getD row 1 0) * getD row 0 0;
   longest = λ row. getD row 0 0;
-  separation = λ row. getD row 1 0
+  separation = λ row. getD row 1 0;
 }
 
 abbrev pub plain : Kind

@@ -56,7 +56,8 @@ pub impl<K: LoadKind> LoadKind for Jittered<K> as JitteredKind {
 
     fn request(&self, row: &Row, t: u64) -> u64 {
         match self.lawful(row) {
-            Ok(()) if t > 0 => self.below.request(&without_jitter(row), t.min(HORIZON) + row[7]),
+            Ok(()) if t > 0 => self.below
+                .request(&without_jitter(row), t.min(HORIZON) + row[7]),
             _ => 0,
         }
     }
@@ -64,8 +65,12 @@ pub impl<K: LoadKind> LoadKind for Jittered<K> as JitteredKind {
     fn until(&self, row: &Row, t: u64) -> u64 {
         match self.lawful(row) {
             Ok(()) if t > 0 => {
-                let last = self.below.until(&without_jitter(row), t.min(HORIZON) + row[7]);
-                if last == HORIZON { HORIZON } else { last - row[7] }
+                let last = self.below
+                    .until(&without_jitter(row), t.min(HORIZON) + row[7]);
+                if last == HORIZON {
+                    return HORIZON;
+                }
+                last - row[7]
             }
             _ => 0,
         }

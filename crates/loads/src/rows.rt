@@ -33,7 +33,9 @@ pub fn judge<R: EntryRule>(rule: &R, row: &Row) -> Result<(), RowFault>
 {
     for index in 0..8 {
         if !rule.allows(row, index) {
-            return Err(RowFault { entry: index as u64 + 1 });
+            return Err(RowFault {
+                entry: index as u64 + 1,
+            });
         }
     }
     Ok(())

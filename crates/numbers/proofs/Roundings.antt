@@ -17,10 +17,10 @@ rounded-up-le t d n pos covers =
     ⊎-elim
     (λ (more : n < t / d). absurd (omega (arith, div-add-mod' t d, mul-le (n + 1) d (t / d) d (omega arith) (omega arith), one-more n d)))
     (λ (less : t / d ≤ n).
-        ⊎-elim
-        (λ (below : t / d < n). omega arith)
-        (λ (same : n ≤ t / d). let e : n * d ≡ t / d * d = ap (λ x. x * d) (omega arith) in omega (arith, div-add-mod' t d))
-        (cases-lt (t / d) n))
+    ⊎-elim
+    (λ (below : t / d < n). omega arith)
+    (λ (same : n ≤ t / d). let e : n * d ≡ t / d * d = ap (λ x. x * d) (omega arith) in omega (arith, div-add-mod' t d))
+    (cases-lt (t / d) n))
     (cases-lt n (t / d))
 
 -- n periods that do not cover t are too few
@@ -29,10 +29,10 @@ lt-rounded-up t d n pos short =
     ⊎-elim
     (λ (less : t / d < n). absurd (omega (arith, div-add-mod' t d, mod-below t d pos, mul-le (t / d + 1) d n d (omega arith) (omega arith), one-more (t / d) d)))
     (λ (more : n ≤ t / d).
-        ⊎-elim
-        (λ (above : n < t / d). omega arith)
-        (λ (same : t / d ≤ n). let e : n * d ≡ t / d * d = ap (λ x. x * d) (omega arith) in omega (arith, div-add-mod' t d))
-        (cases-lt n (t / d)))
+    ⊎-elim
+    (λ (above : n < t / d). omega arith)
+    (λ (same : t / d ≤ n). let e : n * d ≡ t / d * d = ap (λ x. x * d) (omega arith) in omega (arith, div-add-mod' t d))
+    (cases-lt n (t / d)))
     (cases-lt (t / d) n)
 
 -- so many periods cover t

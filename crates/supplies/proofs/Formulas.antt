@@ -20,16 +20,16 @@ module _ (f : ℕ → ℕ) where
     starts = start;
     ticks = λ t. ⊎-elim
         (λ (h : t < last-instant).
-            let here = inside t (omega arith) in
-            let next : up-to-last f (suc t) ≡ f (t + 1) = ap f (omega arith) in
-            let d = steady t in
-            ⊎-elim
-            (λ (more : f t < f (t + 1)). inr (omega (arith, d .adds)))
-            (λ (same : f (t + 1) ≤ f t). inl (omega (arith, d .keeps)))
-            (cases-lt (f t) (f (t + 1))))
+        let here = inside t (omega arith) in
+        let next : up-to-last f (suc t) ≡ f (t + 1) = ap f (omega arith) in
+        let d = steady t in
+        ⊎-elim
+        (λ (more : f t < f (t + 1)). inr (omega (arith, d .adds)))
+        (λ (same : f (t + 1) ≤ f t). inl (omega (arith, d .keeps)))
+        (cases-lt (f t) (f (t + 1))))
         (λ (h : last-instant ≤ t). inl (ap f (omega arith)))
         (cases-lt t last-instant);
-    late = λ t. ap f (omega arith)
+    late = λ t. ap f (omega arith);
   }
 
   -- the first instant at which the formula reaches w, where that is not too late
@@ -37,5 +37,5 @@ module _ (f : ℕ → ℕ) where
   reached-at w t within reaches before = record {
     within = within;
     reaches = omega (arith, inside t within);
-    before = λ u h. omega (arith, inside u (omega arith), before u h)
+    before = λ u h. omega (arith, inside u (omega arith), before u h);
   }

@@ -87,11 +87,11 @@ module _ (q p : ℕ) (lo : 1 ≤ q) (hi : q ≤ p) where
       let n : ℕ = d .j in
       ⊎-elim
       (λ (l : t < (n + 1) * p + b).
-          let is = share-at (t + 1) n (λ h. omega (arith, d .begins h)) (omega arith) in
-          record { keeps = omega (arith, d .is); adds = omega (arith, d .is) })
+      let is = share-at (t + 1) n (λ h. omega (arith, d .begins h)) (omega arith) in
+      record { keeps = omega (arith, d .is); adds = omega (arith, d .is) })
       (λ (g : (n + 1) * p + b ≤ t).
-          let is = share-at (t + 1) (n + 1) (λ h. omega arith) (omega (arith, d .ends, one-more (n + 1) p)) in
-          record { keeps = omega (arith, d .is, d .ends, one-more n p, one-more n q); adds = omega (arith, d .is, d .ends, one-more n p, one-more n q) })
+      let is = share-at (t + 1) (n + 1) (λ h. omega arith) (omega (arith, d .ends, one-more (n + 1) p)) in
+      record { keeps = omega (arith, d .is, d .ends, one-more n p, one-more n q); adds = omega (arith, d .is, d .ends, one-more n p, one-more n q) })
       (cases-lt t ((n + 1) * p + b))
 
   -- a share of all of the time gives every tick
@@ -136,8 +136,8 @@ module _ (q p : ℕ) (lo : 1 ≤ q) (hi : q ≤ p) where
         ⊎-elim
         (λ (less : i < full). omega (arith, d .is, d .ends, one-more i q, mul-le (i + 1) q full q (omega arith) (omega arith)))
         (λ (geq : full ≤ i).
-            ⊎-elim
-            (λ (s : i ≡ full). let ip : i * p ≡ full * p = ap (λ x. x * p) s in let iq : i * q ≡ full * q = ap (λ x. x * q) s in omega (arith, d .is))
-            (λ (n : i ≡ full → ⊥). absurd (omega (arith, d .begins (omega arith), mul-le (full + 1) p i p (omega arith) (omega arith))))
-            (cases-eq i full))
+        ⊎-elim
+        (λ (s : i ≡ full). let ip : i * p ≡ full * p = ap (λ x. x * p) s in let iq : i * q ≡ full * q = ap (λ x. x * q) s in omega (arith, d .is))
+        (λ (n : i ≡ full → ⊥). absurd (omega (arith, d .begins (omega arith), mul-le (full + 1) p i p (omega arith) (omega arith))))
+        (cases-eq i full))
         (cases-lt i full)

@@ -44,7 +44,7 @@ returns-then-asked-gt-LAST-INSTANT g c =
     let s = g .S·Supply .gives (c .args .supply .now) in
     let p : ℕ → Bool = served k s (c .args .above .now) (c .args .base) in
     let none : (v : ℕ) → 1 ≤ v → v ≤ c .args .last → p v ≡ false = λ v some within.
-        none-by-some k (g .K·LoadKind·met .laws (c .args .kind .now)) s (g .S·Supply·met .laws (c .args .supply .now)) (c .args .above .now) (c .args .base) (c .instants .t) (c .loop-row .row-index) (c .loop-row .asked) (c .instants .inv .2) (c .loop-row .inv) (c .if-asked-gt-LAST-INSTANT .taken) v some in
+    none-by-some k (g .K·LoadKind·met .laws (c .args .kind .now)) s (g .S·Supply·met .laws (c .args .supply .now)) (c .args .above .now) (c .args .base) (c .instants .t) (c .loop-row .row-index) (c .loop-row .asked) (c .instants .inv .2) (c .loop-row .inv) (c .if-asked-gt-LAST-INSTANT .taken) v some in
     record { is = earliest-unique p (c .args .last) None none; earliest = none }
 
 pub returns-in-None : need.returns-in-None
@@ -55,7 +55,7 @@ returns-in-None g c =
     let p : ℕ → Bool = served k s rows (c .args .base) in
     let asks : c .loop-row .asked ≡ c .args .base + requests k rows (c .instants .t) = omega (arith, requests-all k rows (c .loop-row .row-index) (c .instants .t) (c .loop-row-test .left)) in
     let none : (v : ℕ) → 1 ≤ v → v ≤ c .args .last → p v ≡ false = λ v some within.
-        none-served k (g .K·LoadKind·met .laws (c .args .kind .now)) s (g .S·Supply·met .laws (c .args .supply .now)) rows (c .args .base) (c .instants .t) (c .loop-row .asked) (c .instants .inv .2) (omega arith) (c .in-None .ensures tt) v some in
+    none-served k (g .K·LoadKind·met .laws (c .args .kind .now)) s (g .S·Supply·met .laws (c .args .supply .now)) rows (c .args .base) (c .instants .t) (c .loop-row .asked) (c .instants .inv .2) (omega arith) (c .in-None .ensures tt) v some in
     record { is = earliest-unique p (c .args .last) None none; earliest = none }
 
 pub returns-then-u-t : need.returns-then-u-t
@@ -69,6 +69,6 @@ returns-then-u-t g c =
       from = c .instants .inv .0;
       to = omega arith;
       hit = served-at k (g .K·LoadKind·met .laws (c .args .kind .now)) s (g .S·Supply·met .laws (c .args .supply .now)) rows (c .args .base) (c .instants .t) (c .in-Some .u) (c .loop-row .asked) asks (c .in-Some .ensures tt) (c .if-u-t .taken);
-      before = c .instants .inv .2
+      before = c .instants .inv .2;
     } in
     record { is = earliest-unique p (c .args .last) (Some (c .instants .t)) found; earliest = found }

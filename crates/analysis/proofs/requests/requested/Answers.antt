@@ -22,5 +22,5 @@ loop-row-again g c =
 pub returns : need.returns
 returns g c = record {
   is = c .loop-row .inv .0 ∙ requests-all (g .K·LoadKind .means (c .args .kind .now)) (c .args .rows .now) (c .loop-row .row-index) (c .args .t) (c .loop-row-test .left);
-  small = search needs
+  small = search needs;
 }

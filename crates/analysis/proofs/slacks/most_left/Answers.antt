@@ -22,8 +22,8 @@ loop-stretch-holds g c =
     let z : ℤ = c .left-at-end-most .result in
     let fits : SFits w128 z = search needs in
     let (after, within, most) =
-        first-stretch k (g .K·LoadKind·met .laws (c .args .kind .now)) s (g .S·Supply·met .laws (c .args .supply .now)) (c .args .above .now) (c .args .longest)
-        (c .max-last .result) (c .args .from) (new .result .end) (new .result .asked) z (omega arith) (new .ensures .end) (new .ensures .asked) (c .left-at-end-most .ensures) in
+    first-stretch k (g .K·LoadKind·met .laws (c .args .kind .now)) s (g .S·Supply·met .laws (c .args .supply .now)) (c .args .above .now) (c .args .longest)
+    (c .max-last .result) (c .args .from) (new .result .end) (new .result .asked) z (omega arith) (new .ensures .end) (new .ensures .asked) (c .left-at-end-most .ensures) in
     (after, within, subst (Largest left (c .args .from) (new .result .end)) (sym (toZ-ofZ w128 z fits)) most)
 
 pub loop-stretch-again : need.loop-stretch-again
@@ -37,9 +37,9 @@ loop-stretch-again g c =
     let fits : SFits w128 z = search needs in
     let fits′ : SFits w128 (c .max-most .result) = search needs in
     let (after, within, most) =
-        next-stretch k (g .K·LoadKind·met .laws (c .args .kind .now)) s (g .S·Supply·met .laws (c .args .supply .now)) (c .args .above .now) (c .args .longest)
-        (c .max-last .result) (d + 1) (new .result .end) (new .result .asked) z (omega arith) (new .ensures .end) (new .ensures .asked) (c .left-at-end .ensures)
-        (c .args .from) d _ (c .loop-stretch .inv .0) refl (c .loop-stretch .inv .2) in
+    next-stretch k (g .K·LoadKind·met .laws (c .args .kind .now)) s (g .S·Supply·met .laws (c .args .supply .now)) (c .args .above .now) (c .args .longest)
+    (c .max-last .result) (d + 1) (new .result .end) (new .result .asked) z (omega arith) (new .ensures .end) (new .ensures .asked) (c .left-at-end .ensures)
+    (c .args .from) d _ (c .loop-stretch .inv .0) refl (c .loop-stretch .inv .2) in
     let same = toZ-ofZ w128 (c .max-most .result) fits′ ∙ c .max-most .ensures .value ∙ ap (maxZ _) (toZ-ofZ w128 z fits) in
     (after, within, subst (Largest left (c .args .from) (new .result .end)) (sym same) most)
 
@@ -49,6 +49,6 @@ returns g c =
     let s = g .S·Supply .gives (c .args .supply .now) in
     let left : ℕ → ℤ = left-over k s (c .args .above .now) (c .args .longest) in
     let most =
-        whole-range k (g .K·LoadKind·met .laws (c .args .kind .now)) s (g .S·Supply·met .laws (c .args .supply .now)) (c .args .above .now) (c .args .longest)
-        (c .args .from) (c .args .last) (c .loop-stretch .stretch .end) _ (c .pre .1) (omega arith) (c .loop-stretch .inv .2) in
+    whole-range k (g .K·LoadKind·met .laws (c .args .kind .now)) s (g .S·Supply·met .laws (c .args .supply .now)) (c .args .above .now) (c .args .longest)
+    (c .args .from) (c .args .last) (c .loop-stretch .stretch .end) _ (c .pre .1) (omega arith) (c .loop-stretch .inv .2) in
     record { is = largest-unique left (c .args .from) (c .args .last) _ most; greatest = most }

@@ -27,9 +27,12 @@ loop-row-again g c =
     let t : ℕ = c .args .t in
     let small = request-bounded k laws (getD rows i []) t in
     let more = requests-more k rows i t (c .loop-row-test .taken) in
-    let P : ℕ → Type 0 = λ e. Until (c .args .last) (requests k (take (i + 1) rows)) t e in
-    (omega arith, omega arith, subst P (sym (c .min-end .ensures))
-        (stretch-more k laws rows i (c .args .last) t (c .loop-row .end) (c .unchanged-until .result) (c .loop-row-test .taken) (c .pre .1 .0) (c .loop-row .inv .2) (c .unchanged-until .ensures)))
+    let P : ℕ → Type 0 = λ e. Until (c .args .last) (requests k (take (i + 1) rows)) t e in (
+      omega arith,
+      omega arith,
+      subst P (sym (c .min-end .ensures))
+          (stretch-more k laws rows i (c .args .last) t (c .loop-row .end) (c .unchanged-until .result) (c .loop-row-test .taken) (c .pre .1 .0) (c .loop-row .inv .2) (c .unchanged-until .ensures)),
+    )
 
 pub returns : need.returns
 returns g c =
@@ -37,5 +40,5 @@ returns g c =
     record {
       asked = c .loop-row .inv .0 ∙ requests-all k (c .args .rows .now) (c .loop-row .row-index) (c .args .t) (c .loop-row-test .left);
       small = search needs;
-      end = until-same (c .args .last) (requests k (take (c .loop-row .row-index) (c .args .rows .now))) (requests k (c .args .rows .now)) (c .args .t) (c .loop-row .end) (λ v. requests-all k (c .args .rows .now) (c .loop-row .row-index) v (c .loop-row-test .left)) (c .loop-row .inv .2)
+      end = until-same (c .args .last) (requests k (take (c .loop-row .row-index) (c .args .rows .now))) (requests k (c .args .rows .now)) (c .args .t) (c .loop-row .end) (λ v. requests-all k (c .args .rows .now) (c .loop-row .row-index) v (c .loop-row-test .left)) (c .loop-row .inv .2);
     }

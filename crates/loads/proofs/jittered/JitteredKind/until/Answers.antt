@@ -30,7 +30,7 @@ returns-else-last-eq-HORIZON g c =
       lawful = λ lawful.
           let lasts = lasts-below k laws row lawful (c .without-jitter .result) (c .min .result) (c .args .t) (c .until-last .result) (c .without-jitter .ensures) (c .min .ensures) (c .until-last .ensures .lawful) in
           jittered-until-some k laws row lawful (c .args .t) (c .until-last .result) (c .if-t-gt0 .taken) lasts (c .if-last-eq-HORIZON .left);
-      unlawful = λ n. absurd (n (c .in-Ok .ensures tt))
+      unlawful = λ n. absurd (n (c .in-Ok .ensures tt));
     }
 
 pub returns-in-rest : need.returns-in-rest
@@ -38,5 +38,5 @@ returns-in-rest g c =
     let below = c .args .self .now .below in
     record {
       lawful = λ lawful. jittered-until-zero (g .K·LoadKind .means below) (g .K·LoadKind·met .laws below) (c .args .row .now) lawful (c .args .t) (c .if-t-gt0 .left);
-      unlawful = λ n. absurd (n (c .in-Ok .ensures tt))
+      unlawful = λ n. absurd (n (c .in-Ok .ensures tt));
     }
