@@ -1,5 +1,5 @@
 -- The largest value and the first hit over a range of instants, as relations; and how to reach them without going tick by tick.
-use mathlib.Core.Path.{_≡_, refl, sym, ap, _∙_}
+use mathlib.Core.Path.{_≡_, refl, ap, _∙_}
 use mathlib.Core.Bool.{Bool, true, false}
 use mathlib.Core.Logic.{⊎-elim}
 use Prim.Native.Nat.{ℕ, zero, suc, _+_, _-_, _≤_, _<_, max}
@@ -10,8 +10,8 @@ use Rattle.std.specs.Numbers.{maxZ}
 use Rattle.std.specs.declared.option.Option.{Option}
 use Rattle.std.specs.declared.option.Option.the-variants.{Some, None}
 use Rattle.std.proofs.shelf.Signed.{ints, clamps}
-use Rattle.std.proofs.shelf.Tests.{cases-lt, cases-order, cond-both, both-ways}
-use Rattle.analysis.specs.Extremes.{largest, Largest, first, First-hit, Earliest}
+use Rattle.std.proofs.shelf.Tests.{cases-lt, cond-both, both-ways}
+use Rattle.analysis.specs.Extremes.{largest, Largest, first, Earliest}
 
 by-lt : {P : Type 0} (a b : ℕ) → (a < b → P) → (b ≤ a → P) → P
 by-lt a b below above = ⊎-elim below above (cases-lt a b)

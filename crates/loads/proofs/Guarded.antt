@@ -1,5 +1,5 @@
 -- A kind that is made from formulas keeps the laws of kinds, once the formulas keep theirs on lawful rows up to the horizon.
-use mathlib.Core.Path.{_≡_, refl, ap, _∙_}
+use mathlib.Core.Path.{_≡_, ap, _∙_}
 use mathlib.Core.List.{List}
 use mathlib.Core.Logic.{_≢_}
 use Prim.Native.Nat.{ℕ, min, _≤_, _<_}

@@ -1,11 +1,10 @@
 -- Loads whose work depends only on how many periods have begun: their laws, and how long a request lasts.
-use mathlib.Core.Path.{_≡_, refl, ap, _∙_}
+use mathlib.Core.Path.{_≡_, ap, _∙_}
 use mathlib.Core.List.{List}
 use mathlib.Core.Logic.{⊎-elim}
 use Prim.Native.Nat.{ℕ, min, _*_, _≤_, _<_}
 use native.Mathlib.Omega.{arith}
 use lib.ListN.{getD}
-use Rattle.std.proofs.shelf.Bits.{mul-le}
 use Rattle.std.proofs.shelf.Tests.{cases-lt}
 use Rattle.numbers.specs.Rounding.{rounded-up}
 use Rattle.numbers.proofs.Roundings.{rounded-up-mono, rounded-up-zero, rounded-up-one, rounded-up-self, last-of-period, next-period}

@@ -1,4 +1,4 @@
--- The framed kind (the multiframe model): a job every T ticks at least, whose lengths go round a cycle of k frames.
+-- The framed kind (the multiframe model): jobs at least T ticks apart, whose lengths go round a cycle of k frames.
 -- Entry 1 is T, entry 2 is k, the next k are the frames, the others are 0.
 use mathlib.Core.Bool.{Bool, cond}
 use mathlib.Core.List.{List}

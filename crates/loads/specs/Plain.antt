@@ -1,4 +1,4 @@
--- The plain kind: a job of C ticks at most every T ticks. Entry 1 is C, entry 2 is T, the others are 0.
+-- The plain kind: jobs of at most C ticks, at least T ticks apart. Entry 1 is C, entry 2 is T, the others are 0.
 use mathlib.Core.Bool.{Bool, cond}
 use mathlib.Core.List.{List}
 use Prim.Native.Nat.{ℕ, _*_}

@@ -1,4 +1,4 @@
-//! The framed kind (the multiframe model): a job every T ticks at least, whose lengths go round a cycle of frames.
+//! The framed kind (the multiframe model): jobs at least T ticks apart, whose lengths go round a cycle of frames.
 ghost use mathlib.Core.Path.{_≡_};
 ghost use Prim.Native.Nat.{_≤_};
 ghost use Rattle.loads.specs.Codes.{framed-code};

@@ -6,7 +6,7 @@ ghost use Rattle.loads.specs.Kind.{horizon, largest-entry};
 use super::kind::HORIZON;
 
 /// How many periods begin in `t` ticks.
-pub fn begun(t: u64, period: u64) -> u64
+pub(crate) fn begun(t: u64, period: u64) -> u64
     requires { ⌜ 1 ≤ period ⌝ }
     ensures { λ r. ⌜ r ≡ rounded-up (min t horizon) period ⌝ }
 {
@@ -14,7 +14,7 @@ pub fn begun(t: u64, period: u64) -> u64
 }
 
 /// The last instant up to the horizon with as many periods begun as at `t`.
-pub fn last_before_next(t: u64, period: u64) -> u64
+pub(crate) fn last_before_next(t: u64, period: u64) -> u64
     requires { ⌜ 1 ≤ period ⌝ ∗ ⌜ period ≤ largest-entry ⌝ }
     ensures { λ r. ⌜ r ≡ min (rounded-up (min t horizon) period * period) horizon ⌝ }
 {

@@ -1,4 +1,4 @@
-//! The plain kind: a job of C ticks at most every T ticks.
+//! The plain kind: jobs of at most C ticks, at least T ticks apart.
 ghost use mathlib.Core.Path.{_≡_};
 ghost use Rattle.loads.specs.Codes.{plain-code};
 ghost use Rattle.loads.specs.Kind.{Until, horizon};

@@ -18,7 +18,7 @@ pub struct RowFault {
 }
 
 /// A rule that judges a row entry by entry.
-pub trait EntryRule {
+pub(crate) trait EntryRule {
     ghost passes: { Self → List ℕ → ℕ → Bool };
 
     /// Whether the entry with this index, from 0, may stand in the row.
@@ -28,7 +28,7 @@ pub trait EntryRule {
 }
 
 /// Yes, or the lowest-numbered entry that breaks the rule.
-pub fn judge<R: EntryRule>(rule: &R, row: &Row) -> Result<(), RowFault>
+pub(crate) fn judge<R: EntryRule>(rule: &R, row: &Row) -> Result<(), RowFault>
     ensures { λ r. ⌜ Judged (lowest (R·EntryRule .passes (now (rule .entry)) (now (row .entry))) 8) r ⌝ }
 {
     for index in 0..8 {

@@ -1,10 +1,10 @@
 -- A supply that is made from a formula keeps the laws of supplies, once the formula keeps them up to the last instant.
-use mathlib.Core.Path.{_≡_, ap, _∙_}
+use mathlib.Core.Path.{_≡_, ap}
 use mathlib.Core.Logic.{_⊎_, inl, inr, ⊎-elim}
-use Prim.Native.Nat.{ℕ, suc, min, _+_, _≤_, _<_}
+use Prim.Native.Nat.{ℕ, suc, _+_, _≤_, _<_}
 use native.Mathlib.Omega.{arith}
 use Rattle.std.proofs.shelf.Tests.{cases-lt}
-use Rattle.supplies.specs.Supplied.{Laws, When, Reached, up-to-last, last-instant}
+use Rattle.supplies.specs.Supplied.{Laws, Reached, up-to-last, last-instant}
 
 -- one more tick gives nothing or one more
 pub record Steady (f : ℕ → ℕ) (t : ℕ) : Type 0 where

@@ -1,7 +1,7 @@
 -- A share of q in each p, by its rounds: round j + 1 is from j * p + b, not included, to (j + 1) * p + b, where b is p - q.
-use mathlib.Core.Path.{_≡_, refl, sym, ap, _∙_}
+use mathlib.Core.Path.{_≡_, ap, _∙_}
 use mathlib.Core.Logic.{⊎-elim}
-use Prim.Native.Nat.{ℕ, max, _+_, _-_, _*_, _/_, _≤_, _<_}
+use Prim.Native.Nat.{ℕ, _+_, _-_, _*_, _/_, _≤_, _<_}
 use native.Mathlib.Omega.{arith}
 use native.Mathlib.Nat.{mul-add}
 use Rattle.std.proofs.shelf.Bits.{mul-le, div-add-mod', mod-below}

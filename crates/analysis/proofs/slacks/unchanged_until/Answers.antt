@@ -1,7 +1,7 @@
 use mathlib.Core.Path.{sym, subst}
 use Prim.Native.Nat.{ℕ}
 use native.Mathlib.Omega.{arith}
-use Rattle.loads.specs.Kind.{Kind, Laws, Until}
+use Rattle.loads.specs.Kind.{Until}
 use Rattle.analysis.proofs.Stretches.{never-changes, changes-later}
 use Rattle.analysis.proofs.slacks.unchanged_until.Needs as need
 

@@ -1,9 +1,8 @@
-use mathlib.Core.Path.{_≡_, ap, _∙_}
-use Prim.Native.Nat.{ℕ, _*_, _/_, _%_}
+use mathlib.Core.Path.{_≡_, ap}
+use Prim.Native.Nat.{ℕ, _*_, _/_}
 use borrow.Author.Needs.{needs}
 use native.Mathlib.Omega.{arith}
-use native.Mathlib.Nat.{div-le-self}
-use Rattle.loads.specs.Framed.{frame-count, frames, largest-of}
+use Rattle.loads.specs.Framed.{frame-count, frames}
 use Rattle.loads.proofs.Frameds.{count-low, count-high, place}
 use Rattle.loads.proofs.Frames.{frames-cycles, largest-of-more}
 use Rattle.loads.proofs.framed.busiest_run.Needs as need

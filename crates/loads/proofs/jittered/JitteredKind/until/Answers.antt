@@ -1,8 +1,6 @@
-use Prim.Native.Nat.{min, _+_}
 use borrow.Author.Needs.{needs}
 use native.Mathlib.Omega.{arith}
-use Rattle.loads.specs.Kind.{Kind, Laws, Until, horizon}
-use Rattle.loads.specs.Jittered.{jitter, row-below}
+use Rattle.loads.specs.Kind.{Kind, Laws}
 use Rattle.loads.proofs.Jitters.{jitter-under, lasts-below, jitter-before, jittered-until-some, jittered-until-zero}
 use Rattle.loads.proofs.jittered.JitteredKind.until.Needs as need
 

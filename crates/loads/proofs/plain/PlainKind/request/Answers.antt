@@ -1,4 +1,3 @@
-use mathlib.Core.Path.{refl}
 use borrow.Author.Needs.{needs}
 use Rattle.loads.proofs.Periodic.{periods-few, work-small}
 use Rattle.loads.proofs.Plains.{plain-periodic}
