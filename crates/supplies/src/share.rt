@@ -1,10 +1,10 @@
 //! A share of the processor (the periodic resource model).
 ghost use mathlib.Core.Path.{_≡_};
-ghost use Prim.Native.Nat.{_≤_};
+ghost use Prim.Native.Nat.{_≤_, _<_};
 ghost use Rattle.std.specs.Results.{Cases};
 ghost use Rattle.supplies.specs.Codes.{share-code};
 ghost use Rattle.supplies.specs.Shares.{Lawful-share, share};
-ghost use Rattle.supplies.specs.Supplied.{last-instant};
+ghost use Rattle.supplies.specs.Supplied.{Reached, last-instant};
 use super::fault::SupplyFault;
 use super::supply::LAST_INSTANT;
 use super::supply::ListedSupply;
@@ -34,6 +34,17 @@ impl Share {
             Err(SupplyFault::Share)
         }
     }
+
+    /// The first instant at which `w` ticks are reached, or an instant past the last one where they never are.
+    fn reaching(&self, w: u64) -> u64
+        requires { ⌜ 1 ≤ w ⌝ ∗ ⌜ w ≤ last-instant ⌝ }
+        ensures early { λ r. ⌜ (r ≤ last-instant → Reached (share (now (self .entry) .budget) (now (self .entry) .period)) w r) ⌝ }
+        ensures late { λ r. ⌜ (last-instant < r → share (now (self .entry) .budget) (now (self .entry) .period) last-instant < w) ⌝ }
+    {
+        let gap = self.period - self.budget;
+        let full = (w - 1) / self.budget;
+        full * self.period + 2 * gap + (w - full * self.budget)
+    }
 }
 
 pub impl Supply for Share as ShareSupply {
@@ -61,9 +72,7 @@ pub impl Supply for Share as ShareSupply {
         if w > LAST_INSTANT {
             return None;
         }
-        let gap = self.period - self.budget;
-        let full = (w - 1) / self.budget;
-        let at = full * self.period + 2 * gap + (w - full * self.budget);
+        let at = self.reaching(w);
         if at <= LAST_INSTANT { Some(at) } else { None }
     }
 }

@@ -1,7 +1,6 @@
 use Prim.Native.Nat.{_≤_}
 use native.Mathlib.Omega.{arith}
-use Rattle.supplies.proofs.Formulas.{reached-at}
-use Rattle.supplies.proofs.Rounds.{at-least, reached, before}
+use Rattle.supplies.proofs.Rounds.{at-least, before}
 use Rattle.supplies.proofs.share.ShareSupply.when.Needs as need
 
 pub returns-then-w-gt-LAST-INSTANT : need.returns-then-w-gt-LAST-INSTANT
@@ -9,17 +8,3 @@ returns-then-w-gt-LAST-INSTANT c =
     let s = c .args .self .now in
     let w : 1 ≤ c .args .w = omega arith in
     before (s .budget) (s .period) (s .some) (s .part) (c .args .w) w 1000000 (omega (arith, at-least (s .budget) (s .period) (s .some) (s .part) (c .args .w) w))
-
-pub returns-then-at-le-LAST-INSTANT : need.returns-then-at-le-LAST-INSTANT
-returns-then-at-le-LAST-INSTANT c =
-    let s = c .args .self .now in
-    let w : 1 ≤ c .args .w = omega arith in
-    reached-at _ (c .args .w) _ (c .if-at-le-LAST-INSTANT .taken)
-    (omega (arith, reached (s .budget) (s .period) (s .some) (s .part) (c .args .w) w))
-    (before (s .budget) (s .period) (s .some) (s .part) (c .args .w) w)
-
-pub returns-else-at-le-LAST-INSTANT : need.returns-else-at-le-LAST-INSTANT
-returns-else-at-le-LAST-INSTANT c =
-    let s = c .args .self .now in
-    let w : 1 ≤ c .args .w = omega arith in
-    before (s .budget) (s .period) (s .some) (s .part) (c .args .w) w 1000000 (c .if-at-le-LAST-INSTANT .left)
