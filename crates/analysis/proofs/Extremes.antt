@@ -37,12 +37,7 @@ module _ (f : ℕ → ℤ) (a : ℕ) where
       (λ _. (t, low, omega arith, same))
       (λ _. (a + suc n, omega arith, omega arith, refl))
 
-  -- the definition meets the relation, and nothing else does
-  pub largest-is : (b : ℕ) → Largest f a b (largest f a (b - a))
-  largest-is b =
-      let (t, low, high, same) = largest-reached (b - a) in
-      record { reached = (t, low, omega arith, same); above = λ u l h. largest-above (b - a) u l (omega arith) }
-
+  -- nothing but the definition meets the relation
   pub largest-unique : (b : ℕ) (z : ℤ) → Largest f a b z → z ≡ largest f a (b - a)
   largest-unique b z l =
       let (t, low, high, same) = l .reached in

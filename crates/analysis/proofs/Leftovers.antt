@@ -1,5 +1,5 @@
 -- What is left over, stretch by stretch: over a stretch the last instant leaves the most, and past the last instant none leaves more.
-use mathlib.Core.Path.{_≡_, sym, ap, subst, _∙_}
+use mathlib.Core.Path.{_≡_, ap}
 use mathlib.Core.List.{List}
 use mathlib.Core.Logic.{⊎-elim}
 use Prim.Native.Nat.{ℕ, max, min, _+_, _≤_, _<_}
@@ -24,33 +24,26 @@ module _ (k : Kind) (kind : Kind-laws k) (s : ℕ → ℕ) (supply : Supply-laws
   abbrev left : ℕ → ℤ
   left = left-over k s above longest
 
-  -- a stretch from t to e, and what is left at its end
-  module _ (last t e asked : ℕ) (z : ℤ) (within : t ≤ last) (l : Until last (requests k above) t e) (asks : asked ≡ requests k above t) (leaves : z ≡ pos (s e) -ℤ pos (longest + asked)) where
+  -- a stretch from t to e
+  module _ (limit t e : ℕ) (within : t ≤ limit) (l : Until limit (requests k above) t e) where
     end-after : t ≤ e
-    end-after = until-after last (requests k above) t e within l
-
-    left-is : z ≡ left e
-    left-is = leaves ∙ ap (λ n. pos (s e) -ℤ pos (longest + n)) (asks ∙ sym (l .same))
+    end-after = until-after limit (requests k above) t e within l
 
     top : (v : ℕ) → t ≤ v → v ≤ e → left v ≤ℤ left e
     top v low high =
-        let same = flat (requests k above) (requests-rise k kind above) last t e within l v low high in
+        let same = flat (requests k above) (requests-rise k kind above) limit t e within l v low high in
         let end = l .same in
         let more = supply-rises s supply v e high in
         omega (arith, ints)
 
     -- the first stretch
-    pub first-stretch : (t ≤ e) × (e ≤ last) × Largest left t e z
-    first-stretch = (end-after, l .within, subst (Largest left t e) (sym left-is) (largest-first left t e end-after top))
+    pub first-stretch : (t ≤ e) × (e ≤ limit) × Largest left t e (left e)
+    first-stretch = (end-after, l .within, largest-first left t e end-after top)
 
     -- one more stretch, after d
-    pub next-stretch : (a d : ℕ) (most : ℤ) → a ≤ d → t ≡ d + 1 → Largest left a d most → (a ≤ e) × (e ≤ last) × Largest left a e (maxZ most z)
-    next-stretch a d most low next so-far = (
-      omega (arith, end-after),
-      l .within,
-      subst (λ y. Largest left a e (maxZ most y)) (sym left-is)
-          (largest-next left a d e most low (omega (arith, end-after)) so-far (λ v below high. top v (omega arith) high)),
-    )
+    pub next-stretch : (a d : ℕ) (most : ℤ) → a ≤ d → t ≡ d + 1 → Largest left a d most → (a ≤ e) × (e ≤ limit) × Largest left a e (maxZ most (left e))
+    next-stretch a d most low next so-far =
+        (omega (arith, end-after), l .within, largest-next left a d e most low (omega (arith, end-after)) so-far (λ v below high. top v (omega arith) high))
 
   -- past the last instant none leaves more
   pub whole-range : (a b end : ℕ) (most : ℤ) → a ≤ last-instant → end ≡ max (min b last-instant) a → Largest left a end most → Largest left a b most

@@ -1,4 +1,4 @@
--- Instants that are passed over: where the supply has not reached what was asked for at t, no instant from t on is served.
+-- Instants that are passed over: from t on, no work is covered until the supply reaches what is asked for at t.
 use mathlib.Core.Path.{_≡_}
 use mathlib.Core.Bool.{true, false}
 use mathlib.Core.List.{List}
@@ -11,23 +11,23 @@ use Rattle.loads.specs.Kind.{Kind}
 use Rattle.loads.specs.Kind.{Laws as Kind-laws}
 use Rattle.supplies.specs.Supplied.{Reached, last-instant}
 use Rattle.supplies.specs.Supplied.{Laws as Supply-laws}
-use Rattle.analysis.specs.Instants.{requests, served}
+use Rattle.analysis.specs.Instants.{requests, work-of, covered}
 use Rattle.analysis.proofs.Supplying.{supply-rises, supply-last, supply-bounded}
 use Rattle.analysis.proofs.Totals.{requests-rise, requests-of-some}
 
 module _ (k : Kind) (kind : Kind-laws k) (s : ℕ → ℕ) (supply : Supply-laws s) (above : List (List ℕ)) (base : ℕ) where
-  -- no instant before t is served
+  -- at no instant before t is the work covered
   abbrev pub None-before : ℕ → Type 0
-  None-before t = (v : ℕ) → 1 ≤ v → v < t → served k s above base v ≡ false
+  None-before t = (v : ℕ) → 1 ≤ v → v < t → covered k s above base v ≡ false
 
-  module _ (t asked : ℕ) (before : None-before t) (asks : asked ≤ base + requests k above t) where
+  module _ (t asked : ℕ) (before : None-before t) (asks : asked ≤ work-of k above base t) where
     -- an instant from t on at which the supply has not reached what is asked for
-    short : (v : ℕ) → t ≤ v → s v < asked → served k s above base v ≡ false
-    short v later less = lt-leb (base + requests k above v) (s v) (omega (arith, requests-rise k kind above t v later))
+    short : (v : ℕ) → t ≤ v → s v < asked → covered k s above base v ≡ false
+    short v later less = lt-leb (work-of k above base v) (s v) (omega (arith, requests-rise k kind above t v later))
 
     -- the supply never reaches it
-    pub none-served : s last-instant < asked → (v : ℕ) → 1 ≤ v → served k s above base v ≡ false
-    none-served less v some =
+    pub none-covered : s last-instant < asked → (v : ℕ) → 1 ≤ v → covered k s above base v ≡ false
+    none-covered less v some =
         ⊎-elim
         (λ (early : v < t). before v some early)
         (λ (late : t ≤ v). short v late (omega (arith, supply-last s supply v)))
@@ -42,10 +42,10 @@ module _ (k : Kind) (kind : Kind-laws k) (s : ℕ → ℕ) (supply : Supply-laws
         (cases-lt v t)
 
   -- what is asked for by some of the rows is more than any supply gives
-  pub none-by-some : (t i asked : ℕ) → None-before t → asked ≡ base + requests k (take i above) t → last-instant < asked → (v : ℕ) → 1 ≤ v → served k s above base v ≡ false
+  pub none-by-some : (t i asked : ℕ) → None-before t → asked ≡ base + requests k (take i above) t → last-instant < asked → (v : ℕ) → 1 ≤ v → covered k s above base v ≡ false
   none-by-some t i asked before asks more =
-      none-served t asked before (omega (arith, requests-of-some k above i t)) (omega (arith, supply-bounded s supply last-instant))
+      none-covered t asked before (omega (arith, requests-of-some k above i t)) (omega (arith, supply-bounded s supply last-instant))
 
-  pub served-at : (t u asked : ℕ) → asked ≡ base + requests k above t → Reached s asked u → u ≤ t → served k s above base t ≡ true
-  served-at t u asked asks reached later =
-      le-leb (base + requests k above t) (s t) (omega (arith, reached .reaches, supply-rises s supply u t later))
+  pub covered-at : (t u asked : ℕ) → asked ≡ work-of k above base t → Reached s asked u → u ≤ t → covered k s above base t ≡ true
+  covered-at t u asked asks reached later =
+      le-leb (work-of k above base t) (s t) (omega (arith, reached .reaches, supply-rises s supply u t later))

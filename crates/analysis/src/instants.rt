@@ -1,26 +1,26 @@
-//! First instants: when work is served.
+//! First instants: when work is covered.
 ghost use mathlib.Core.Path.{_≡_};
 ghost use Rattle.analysis.specs.Extremes.{Earliest};
-ghost use Rattle.analysis.specs.Instants.{first-served, served};
+ghost use Rattle.analysis.specs.Instants.{first-covered, covered};
 use loads::LoadKind;
 use loads::Row;
 use supplies::LAST_INSTANT;
 use supplies::Supply;
 
-/// The first instant from 1 to `last` at which the supply covers `base` and all that the rows above can ask for, or none.
+/// The first instant from 1 to the limit at which the supply covers `base` and all that the rows above can ask for, or none.
 pub fn first_instant<K: LoadKind, S: Supply>(
     kind: &K,
     supply: &S,
     above: &[Row],
     base: u64,
-    last: u64,
+    limit: u64,
 ) -> Option<u64>
-    ensures is { λ r. ⌜ r ≡ first-served (means (now (kind .entry))) (gives (now (supply .entry))) (now (above .entry)) base last ⌝ }
-    ensures earliest { λ r. ⌜ Earliest (served (means (now (kind .entry))) (gives (now (supply .entry))) (now (above .entry)) base) last r ⌝ }
+    ensures is { λ r. ⌜ r ≡ first-covered (means (now (kind .entry))) (gives (now (supply .entry))) (now (above .entry)) base limit ⌝ }
+    ensures earliest { λ r. ⌜ Earliest (covered (means (now (kind .entry))) (gives (now (supply .entry))) (now (above .entry)) base) limit r ⌝ }
 {
     let mut t: u64 = 1;
     'instants: loop {
-        if t > last {
+        if t > limit {
             break 'instants None;
         }
         let mut asked = base;

@@ -5,4 +5,5 @@ mod slacks;
 
 pub use instants::first_instant;
 pub use requests::requested;
+pub use requests::work;
 pub use slacks::slack;

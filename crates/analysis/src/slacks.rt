@@ -1,76 +1,70 @@
 //! Slack: the most that the supply leaves over at an instant up to the deadline.
 ghost use mathlib.Core.Path.{_≡_};
-ghost use Prim.Native.Nat.{_≤_, _^_, _+_, _-_};
-ghost use lib.IntN.{pos, _-ℤ_};
+ghost use Prim.Native.Nat.{_≤_, _-_};
 ghost use Rattle.loads.specs.Kind.{Until};
 ghost use Rattle.supplies.specs.Supplied.{last-instant};
 ghost use Rattle.analysis.specs.Extremes.{Largest, largest};
 ghost use Rattle.analysis.specs.Instants.{left-over, requests, slack-of};
+use super::requests::work;
 use loads::LoadKind;
 use loads::Row;
 use supplies::LAST_INSTANT;
 use supplies::Supply;
 
-/// A run of instants over which the requests of some rows stay the same: what they ask for together, and the last instant.
-#[derive(Clone, Copy)]
-struct Stretch {
-    asked: u128,
-    end: u64,
-}
-
-/// The last instant up to `last` at which the row asks for what it asks for at `t`. An unlawful row never asks for anything.
-fn unchanged_until<K: LoadKind>(kind: &K, row: &Row, t: u64, last: u64) -> u64
-    requires { ⌜ 1 ≤ t ⌝ ∗ ⌜ t ≤ last ⌝ ∗ ⌜ last ≤ last-instant ⌝ }
-    ensures { λ r. ⌜ Until last (means (now (kind .entry)) .request (now (row .entry))) t r ⌝ }
+/// The greatest instant up to the limit at which the row asks for what it asks for at `t`. An unlawful row never asks for anything.
+fn unchanged_until<K: LoadKind>(kind: &K, row: &Row, t: u64, limit: u64) -> u64
+    requires { ⌜ 1 ≤ t ⌝ ∗ ⌜ t ≤ limit ⌝ ∗ ⌜ limit ≤ last-instant ⌝ }
+    ensures { λ r. ⌜ Until limit (means (now (kind .entry)) .request (now (row .entry))) t r ⌝ }
 {
     let until = kind.until(row, t);
-    if until < t { last } else { until.min(last) }
+    if until < t { limit } else { until.min(limit) }
 }
 
-/// The stretch from `t` on, cut off at `last`.
-fn stretch_at<K: LoadKind>(kind: &K, rows: &[Row], t: u64, last: u64) -> Stretch
-    requires { ⌜ 1 ≤ t ⌝ ∗ ⌜ t ≤ last ⌝ ∗ ⌜ last ≤ last-instant ⌝ }
-    ensures asked { λ r. ⌜ r .asked ≡ requests (means (now (kind .entry))) (now (rows .entry)) t ⌝ }
-    ensures small { λ r. ⌜ r .asked ≤ 2 ^ 105 ⌝ }
-    ensures end { λ r. ⌜ Until last (requests (means (now (kind .entry))) (now (rows .entry))) t (r .end) ⌝ }
+/// The end of the stretch from `t` on: the greatest instant up to the limit at which the rows ask for what they ask for at `t`.
+fn stretch_end<K: LoadKind>(kind: &K, rows: &[Row], t: u64, limit: u64) -> u64
+    requires { ⌜ 1 ≤ t ⌝ ∗ ⌜ t ≤ limit ⌝ ∗ ⌜ limit ≤ last-instant ⌝ }
+    ensures { λ r. ⌜ Until limit (requests (means (now (kind .entry))) (now (rows .entry))) t r ⌝ }
 {
-    let mut asked: u128 = 0;
-    let mut end = last;
+    let mut end = limit;
     for row in rows {
-        asked += u128::from(kind.request(row, t));
-        end = end.min(unchanged_until(kind, row, t, last));
+        end = end.min(unchanged_until(kind, row, t, limit));
     }
-    Stretch { asked, end }
+    end
 }
 
-/// What the supply leaves over at the end of the stretch, after one job of `longest` ticks.
-fn left_at_end<S: Supply>(supply: &S, stretch: Stretch, longest: u64) -> i128
-    requires { ⌜ stretch .asked ≤ 2 ^ 105 ⌝ }
-    ensures { λ r. ⌜ r ≡ pos (gives (now (supply .entry)) (stretch .end)) -ℤ pos (longest + stretch .asked) ⌝ }
+/// What the supply leaves over at `t`, after one job of `longest` ticks and all that the rows above it can ask for.
+fn left_at<K: LoadKind, S: Supply>(
+    kind: &K,
+    supply: &S,
+    above: &[Row],
+    longest: u64,
+    t: u64,
+) -> i128
+    ensures { λ r. ⌜ r ≡ left-over (means (now (kind .entry))) (gives (now (supply .entry))) (now (above .entry)) longest t ⌝ }
 {
-    let work = u128::from(longest) + stretch.asked;
-    i128::from(supply.supplied(stretch.end)) - work as i128
+    i128::from(supply.supplied(t)) - work(kind, above, longest, t) as i128
 }
 
-/// The most that the supply leaves over at an instant from `from` to `last`, after one job of `longest` ticks.
+/// The most that the supply leaves over at an instant from `from` to `to`, after one job of `longest` ticks. Only the ends of
+/// stretches are looked at: over a stretch the work stays, and the supply does not fall.
 fn most_left<K: LoadKind, S: Supply>(
     kind: &K,
     supply: &S,
     above: &[Row],
     longest: u64,
     from: u64,
-    last: u64,
+    to: u64,
 ) -> i128
     requires { ⌜ 1 ≤ from ⌝ ∗ ⌜ from ≤ last-instant ⌝ }
-    ensures is { λ r. ⌜ r ≡ largest (left-over (means (now (kind .entry))) (gives (now (supply .entry))) (now (above .entry)) longest) from (last - from) ⌝ }
-    ensures greatest { λ r. ⌜ Largest (left-over (means (now (kind .entry))) (gives (now (supply .entry))) (now (above .entry)) longest) from last r ⌝ }
+    ensures is { λ r. ⌜ r ≡ largest (left-over (means (now (kind .entry))) (gives (now (supply .entry))) (now (above .entry)) longest) from (to - from) ⌝ }
+    ensures greatest { λ r. ⌜ Largest (left-over (means (now (kind .entry))) (gives (now (supply .entry))) (now (above .entry)) longest) from to r ⌝ }
 {
-    let last = last.min(LAST_INSTANT).max(from);
-    let mut stretch = stretch_at(kind, above, from, last);
-    let mut most: i128 = left_at_end(supply, stretch, longest);
-    while stretch.end < last {
-        stretch = stretch_at(kind, above, stretch.end + 1, last);
-        most = most.max(left_at_end(supply, stretch, longest));
+    let limit = to.min(LAST_INSTANT).max(from);
+    let mut end = stretch_end(kind, above, from, limit);
+    let mut most: i128 = left_at(kind, supply, above, longest, end);
+    while end < limit {
+        end = stretch_end(kind, above, end + 1, limit);
+        most = most.max(left_at(kind, supply, above, longest, end));
     }
     most
 }

@@ -2,6 +2,7 @@
 use analysis::first_instant;
 use analysis::requested;
 use analysis::slack;
+use analysis::work;
 use loads::Framed;
 use loads::FramedKind;
 use loads::Jittered;
@@ -37,7 +38,8 @@ fn task<K: LoadKind, S: Supply>(
 #[test]
 fn on_the_whole_processor() -> Result<(), Fail> {
     task(&Plain, &Whole, &[row(4, 10, 0)], (5, 11), (1, Some(9)))?;
-    check_eq(requested(&Plain, &[row(4, 10, 0)], 11) + 5, 13)?;
+    check_eq(requested(&Plain, &[row(4, 10, 0)], 11), 8)?;
+    check_eq(work(&Plain, &[row(4, 10, 0)], 5, 11), 13)?;
     task(&Plain, &Whole, &[], (2, 5), (3, Some(2)))?;
     task(
         &Plain,

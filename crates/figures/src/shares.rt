@@ -6,8 +6,6 @@ use supplies::ShareListed;
 use supplies::ShareSupply;
 use supplies::Supply;
 use supplies::SupplyFault;
-use supplies::SupplyFaultDebug;
-use supplies::SupplyFaultPartialEq;
 use supplies::Whole;
 use supplies::WholeListed;
 use supplies::WholeSupply;

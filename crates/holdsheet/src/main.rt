@@ -1,7 +1,7 @@
 //! Judges a small task set and prints what it finds, in plain words.
 use analysis::first_instant;
-use analysis::requested;
 use analysis::slack;
+use analysis::work;
 use loads::LoadKind;
 use loads::Plain;
 use loads::PlainKind;
@@ -11,9 +11,11 @@ use supplies::Supply;
 use supplies::Whole;
 use supplies::WholeSupply;
 
-/// Two plain tasks, the most urgent first. The lower one is served, though not by what adds up at its deadline.
+/// The rows of two plain tasks, the most urgent first. The lower one is served, although its work at the deadline is more than is
+/// supplied there.
 const ROWS: [Row; 2] = [[4, 10, 0, 0, 0, 0, 0, 0], [5, 11, 0, 0, 0, 0, 0, 0]];
 
+/// Their deadlines.
 const DEADLINES: [u64; 2] = [10, 11];
 
 /// Prints what there is to say of the task with this row and deadline, below the rows above it.
@@ -22,7 +24,7 @@ fn judge(rt: &impl Print, above: &[Row], row: &Row, deadline: u64) -> Result<(),
     let longest = Plain.longest(row);
     let separation = Plain.separation(row);
     let slack = slack(&Plain, &Whole, above, longest, deadline);
-    let work = u128::from(longest) + requested(&Plain, above, deadline);
+    let work = work(&Plain, above, longest, deadline);
     let supplied = Whole.supplied(deadline);
     println!(
         rt,

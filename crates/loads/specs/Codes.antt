@@ -2,9 +2,11 @@
 use Prim.Native.Nat.{ℕ, _+_, min}
 use Rattle.numbers.specs.Columns.{largest-listed}
 
+-- the code of the plain kind
 abbrev pub plain-code : ℕ
 plain-code = 1
 
+-- the code of the framed kind
 abbrev pub framed-code : ℕ
 framed-code = 2
 

@@ -10,13 +10,17 @@ use Rattle.numbers.specs.Rounding.{rounded-up}
 use Rattle.loads.specs.Kind.{Kind, guarded, largest-entry}
 use Rattle.loads.specs.Rows.{lowest}
 
+-- the most frames that a cycle can have
+abbrev pub most-frames : ℕ
+most-frames = 5
+
 -- how many frames the cycle has
 abbrev pub frame-count : List ℕ → ℕ
 frame-count row = getD row 1 0
 
 -- the entry with index i may stand in a framed row: the separation and the frames, the count of frames, or nothing
 abbrev pub framed-entry : List ℕ → ℕ → Bool
-framed-entry row i = cond (eqb i 1) (from-to 1 5 (getD row i 0)) (cond (ltb i (2 + frame-count row)) (from-to 1 largest-entry (getD row i 0)) (eqb (getD row i 0) 0))
+framed-entry row i = cond (eqb i 1) (from-to 1 most-frames (getD row i 0)) (cond (ltb i (2 + frame-count row)) (from-to 1 largest-entry (getD row i 0)) (eqb (getD row i 0) 0))
 
 -- frame number j, from 0, of the endlessly repeated cycle
 abbrev pub frame : List ℕ → ℕ → ℕ
@@ -45,5 +49,6 @@ framed-formulas = record {
   separation = λ row. getD row 0 0;
 }
 
+-- what the framed kind says of every row
 abbrev pub framed : Kind
 framed = guarded framed-formulas

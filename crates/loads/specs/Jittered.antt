@@ -6,6 +6,7 @@ use lib.Dec.{eqb, ltb}
 use lib.ListN.{getD, set}
 use Rattle.loads.specs.Kind.{Kind, guarded}
 
+-- the jitter J
 abbrev pub jitter : List ℕ → ℕ
 jitter row = getD row 7 0
 
@@ -17,7 +18,7 @@ row-below row = set row 7 0
 abbrev pub jittered-fault : Kind → List ℕ → ℕ
 jittered-fault k row = cond (eqb (k .fault (row-below row)) 0) (cond (ltb (jitter row) (k .separation (row-below row))) 0 8) (k .fault (row-below row))
 
--- jobs of J ticks more can fall together
+-- all jobs that arrive within t + J ticks can become ready within t
 abbrev pub jittered-formulas : Kind → Kind
 jittered-formulas k = record {
   fault = jittered-fault k;
@@ -26,5 +27,6 @@ jittered-formulas k = record {
   separation = λ row. k .separation (row-below row) - jitter row;
 }
 
+-- what the jittered kind over another says of every row
 abbrev pub jittered : Kind → Kind
 jittered k = guarded (jittered-formulas k)

@@ -7,7 +7,7 @@ use Prim.Native.Nat.{ℕ, _≤_, _<_, min}
 use lib.Dec.{eqb}
 use lib.ListN.{getD}
 
--- the last instant of a request: a later one counts as this
+-- requests are counted up to this instant: a later one counts as this
 abbrev pub horizon : ℕ
 horizon = 2000000
 
@@ -19,6 +19,7 @@ largest-entry = 1000000
 abbrev pub most-work : ℕ
 most-work = 2000000000000
 
+-- what a kind says of every row
 pub record Kind : Type 0 where
   pub fault : List ℕ → ℕ  -- the lowest-numbered entry at fault, from 1 to 8, or 0 where the row is lawful
   pub request : List ℕ → ℕ → ℕ  -- the most work that can arrive in so many ticks

@@ -22,5 +22,6 @@ plain-formulas = record {
   separation = λ row. getD row 1 0;
 }
 
+-- what the plain kind says of every row
 abbrev pub plain : Kind
 plain = guarded plain-formulas

@@ -1,9 +1,9 @@
 //! The framed kind (the multiframe model): jobs at least T ticks apart, whose lengths go round a cycle of frames.
 ghost use mathlib.Core.Path.{_≡_};
-ghost use Prim.Native.Nat.{_≤_};
+ghost use Prim.Native.Nat.{_*_, _≤_};
 ghost use Rattle.loads.specs.Codes.{framed-code};
-ghost use Rattle.loads.specs.Framed.{busiest, framed, framed-entry, framed-formulas, frames};
-ghost use Rattle.loads.specs.Kind.{Until, horizon};
+ghost use Rattle.loads.specs.Framed.{busiest, framed, framed-entry, framed-formulas, frames, most-frames};
+ghost use Rattle.loads.specs.Kind.{Until, horizon, largest-entry};
 use super::kind::ListedKind;
 use super::kind::LoadKind;
 use super::periods::begun;
@@ -41,9 +41,9 @@ impl EntryRule for Framed as FramedEntries {
 
 /// The sum of `n` consecutive frames, from number `start` on.
 fn sum_of_frames(row: &Row, start: u64, n: u64) -> u64
-    requires { ⌜ framed-formulas .fault (now row) ≡ 0 ⌝ ∗ ⌜ start ≤ 5 ⌝ ∗ ⌜ n ≤ 5 ⌝ }
+    requires { ⌜ framed-formulas .fault (now row) ≡ 0 ⌝ ∗ ⌜ start ≤ most-frames ⌝ ∗ ⌜ n ≤ most-frames ⌝ }
     ensures is { λ r. ⌜ r ≡ frames (now (row .entry)) start n ⌝ }
-    ensures small { λ r. ⌜ r ≤ 5000000 ⌝ }
+    ensures small { λ r. ⌜ r ≤ most-frames * largest-entry ⌝ }
 {
     let count = row[1];
     let mut sum = 0;

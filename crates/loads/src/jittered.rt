@@ -12,6 +12,9 @@ use numbers::LARGEST_LISTED;
 /// How much more than the kind below a jittered kind has as its code.
 const CODE_STEP: u64 = 10;
 
+/// The index of entry 8, the jitter.
+const JITTER: usize = 7;
+
 /// Entry 8 is J; the kind below gets the row with 0 there.
 #[derive(Clone, Copy)]
 pub struct Jittered<K> {
@@ -23,7 +26,7 @@ fn without_jitter(row: &Row) -> Row
     ensures { λ r. ⌜ r ≡ row-below (now (row .entry)) ⌝ }
 {
     let mut below = *row;
-    below[7] = 0;
+    below[JITTER] = 0;
     below
 }
 
@@ -33,7 +36,7 @@ pub impl<K: LoadKind> LoadKind for Jittered<K> as JitteredKind {
     fn lawful(&self, row: &Row) -> Result<(), RowFault> {
         let below = without_jitter(row);
         self.below.lawful(&below)?;
-        if row[7] < self.below.separation(&below) {
+        if row[JITTER] < self.below.separation(&below) {
             Ok(())
         } else {
             Err(RowFault { entry: 8 })
@@ -49,7 +52,7 @@ pub impl<K: LoadKind> LoadKind for Jittered<K> as JitteredKind {
 
     fn separation(&self, row: &Row) -> u64 {
         match self.lawful(row) {
-            Ok(()) => self.below.separation(&without_jitter(row)) - row[7],
+            Ok(()) => self.below.separation(&without_jitter(row)) - row[JITTER],
             Err(_) => 0,
         }
     }
@@ -57,7 +60,7 @@ pub impl<K: LoadKind> LoadKind for Jittered<K> as JitteredKind {
     fn request(&self, row: &Row, t: u64) -> u64 {
         match self.lawful(row) {
             Ok(()) if t > 0 => self.below
-                .request(&without_jitter(row), t.min(HORIZON) + row[7]),
+                .request(&without_jitter(row), t.min(HORIZON) + row[JITTER]),
             _ => 0,
         }
     }
@@ -66,11 +69,11 @@ pub impl<K: LoadKind> LoadKind for Jittered<K> as JitteredKind {
         match self.lawful(row) {
             Ok(()) if t > 0 => {
                 let last = self.below
-                    .until(&without_jitter(row), t.min(HORIZON) + row[7]);
+                    .until(&without_jitter(row), t.min(HORIZON) + row[JITTER]);
                 if last == HORIZON {
                     return HORIZON;
                 }
-                last - row[7]
+                last - row[JITTER]
             }
             _ => 0,
         }

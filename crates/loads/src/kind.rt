@@ -7,11 +7,12 @@ ghost use Rattle.loads.specs.Rows.{Judged};
 use super::rows::Row;
 use super::rows::RowFault;
 
-/// The last instant of a request: a later one counts as this.
+/// Requests are counted up to this instant: a later one counts as this.
 pub const HORIZON: u64 = 2_000_000;
 
 /// Says what a row means: whether it is lawful, and the work that it stands for. On an unlawful row the numbers are 0.
 pub trait LoadKind {
+    // what the kind says of every row
     ghost means: { Self → Kind };
 
     law laws: { (k : Self) → Laws (means k) };
@@ -39,10 +40,12 @@ pub trait LoadKind {
 
 /// A load kind that stands on sheets, by its code.
 pub trait ListedKind: LoadKind {
+    // the code
     ghost coded: { Self → ℕ };
 
     law codes: { (k : Self) → coded k ≤ largest-listed };
 
+    /// The code by which the kind is known on sheets.
     fn code(&self) -> u64
         ensures { λ r. ⌜ r ≡ coded (now (self .entry)) ⌝ };
 }

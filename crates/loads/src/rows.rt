@@ -11,7 +11,7 @@ pub const LARGEST_ENTRY: u64 = 1_000_000;
 /// A task's load, entries 1 to 8; its kind says what they mean.
 pub type Row = [u64; 8];
 
-/// The lowest-numbered entry of a row that its kind does not allow, from 1 to 8.
+/// An entry of a row that its kind does not allow. `lawful` names the lowest-numbered one, from 1 to 8.
 #[derive(Clone, Copy, PartialEq, Eq, Debug)]
 pub struct RowFault {
     pub entry: u64,
@@ -19,6 +19,7 @@ pub struct RowFault {
 
 /// A rule that judges a row entry by entry.
 pub(crate) trait EntryRule {
+    // the entry with this index passes
     ghost passes: { Self → List ℕ → ℕ → Bool };
 
     /// Whether the entry with this index, from 0, may stand in the row.

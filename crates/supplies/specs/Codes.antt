@@ -1,9 +1,11 @@
 -- The codes and numbers by which supplies are known on sheets.
 use Prim.Native.Nat.{ℕ}
 
+-- the code of the whole processor
 abbrev pub whole-code : ℕ
 whole-code = 1
 
+-- the code of a share
 abbrev pub share-code : ℕ
 share-code = 2
 

@@ -5,7 +5,7 @@ use Prim.Native.Nat.{ℕ, suc, _≤_, _<_, min}
 use Rattle.std.specs.declared.option.Option.{Option}
 use Rattle.std.specs.declared.option.Option.the-variants.{Some, None}
 
--- the last instant of a supply: a later one counts as this
+-- supplies are counted up to this instant, the last one: a later one counts as this
 abbrev pub last-instant : ℕ
 last-instant = 1000000
 

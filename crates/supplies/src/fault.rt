@@ -5,7 +5,7 @@ ghost use Rattle.supplies.specs.Refusals.{refusal};
 /// Why a supply cannot be made.
 #[derive(Clone, Copy, PartialEq, Eq, Debug)]
 pub enum SupplyFault {
-    /// The budget is not from 1 to the period, or the period is past the last instant.
+    /// The budget is not from 1 to the period, or the period is longer than 1,000,000.
     Share,
 }
 

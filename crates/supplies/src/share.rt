@@ -3,7 +3,7 @@ ghost use mathlib.Core.Path.{_≡_};
 ghost use Prim.Native.Nat.{_≤_, _<_};
 ghost use Rattle.std.specs.Results.{Cases};
 ghost use Rattle.supplies.specs.Codes.{share-code};
-ghost use Rattle.supplies.specs.Shares.{Lawful-share, share};
+ghost use Rattle.supplies.specs.Shares.{Lawful-share, longest-period, share};
 ghost use Rattle.supplies.specs.Supplied.{Reached, last-instant};
 use super::fault::SupplyFault;
 use super::supply::LAST_INSTANT;
@@ -13,6 +13,9 @@ use super::supply::Supply;
 /// The code of a share on sheets.
 const CODE: u64 = 2;
 
+/// The longest period of a share.
+const LONGEST_PERIOD: u64 = 1_000_000;
+
 /// `budget` ticks of each `period`, at the worst time.
 #[derive(Clone, Copy)]
 pub struct Share {
@@ -20,15 +23,15 @@ pub struct Share {
     period: u64,
     ghost some: { 1 ≤ budget },
     ghost part: { budget ≤ period },
-    ghost brief: { period ≤ last-instant },
+    ghost brief: { period ≤ longest-period },
 }
 
 impl Share {
     /// A share of `budget` in `period`, where 1 ≤ budget ≤ period ≤ 1,000,000.
     pub fn new(budget: u64, period: u64) -> Result<Share, SupplyFault>
-        ensures { λ r. ⌜ Cases r (λ s. (s .budget ≡ budget) × (s .period ≡ period)) (λ f. (Lawful-share budget period → ⊥) × (f ≡ SupplyFault.Share)) ⌝ }
+        ensures { λ r. ⌜ Cases r (λ s. Lawful-share budget period × (s .budget ≡ budget) × (s .period ≡ period)) (λ f. (Lawful-share budget period → ⊥) × (f ≡ SupplyFault.Share)) ⌝ }
     {
-        if 1 <= budget && budget <= period && period <= LAST_INSTANT {
+        if 1 <= budget && budget <= period && period <= LONGEST_PERIOD {
             Ok(Share { budget, period })
         } else {
             Err(SupplyFault::Share)
