@@ -1,7 +1,7 @@
 pub mod Lowest
 pub mod Guarded
 pub mod Periodic
-pub mod Plains
+pub mod PlainLaws
 pub mod Frames
-pub mod Frameds
-pub mod Jitters
+pub mod FramedLaws
+pub mod JitteredLaws

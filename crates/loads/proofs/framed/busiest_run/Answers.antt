@@ -3,7 +3,7 @@ use Prim.Native.Nat.{ℕ, _*_, _/_}
 use borrow.Author.Needs.{needs}
 use native.Mathlib.Omega.{arith}
 use Rattle.loads.specs.Framed.{frame-count, frames}
-use Rattle.loads.proofs.Frameds.{count-low, count-high, place}
+use Rattle.loads.proofs.FramedLaws.{count-low, count-high, place}
 use Rattle.loads.proofs.Frames.{frames-cycles, largest-of-more}
 use Rattle.loads.proofs.framed.busiest_run.Needs as need
 

@@ -1,7 +1,7 @@
 use mathlib.Core.Path.{refl}
 use Rattle.loads.specs.Framed.{framed-formulas}
 use Rattle.loads.proofs.Periodic.{periodic-until}
-use Rattle.loads.proofs.Frameds.{framed-periodic}
+use Rattle.loads.proofs.FramedLaws.{framed-periodic}
 use Rattle.loads.proofs.framed.last_with_same.Needs as need
 
 pub last-before-next-requires : need.last-before-next-requires

@@ -1,7 +1,7 @@
 use Prim.Native.Nat.{_+_}
 use borrow.Author.Needs.{needs}
 use native.Mathlib.Omega.{arith}
-use Rattle.loads.proofs.Frameds.{count-low, count-high, place, frame-high}
+use Rattle.loads.proofs.FramedLaws.{count-low, count-high, place, frame-high}
 use Rattle.loads.proofs.Frames.{frames-more}
 use Rattle.loads.proofs.framed.sum_of_frames.Needs as need
 

@@ -1,7 +1,7 @@
 use mathlib.Core.Path.{refl}
 use Rattle.loads.specs.Plain.{plain-formulas}
 use Rattle.loads.proofs.Periodic.{periodic-until}
-use Rattle.loads.proofs.Plains.{plain-periodic}
+use Rattle.loads.proofs.PlainLaws.{plain-periodic}
 use Rattle.loads.proofs.plain.last_with_same.Needs as need
 
 pub last-before-next-requires : need.last-before-next-requires

@@ -1,4 +1,4 @@
-use Rattle.loads.proofs.Frameds.{framed-periodic}
+use Rattle.loads.proofs.FramedLaws.{framed-periodic}
 use Rattle.loads.proofs.framed.FramedKind.request.Needs as need
 
 pub begun-requires : need.begun-requires

@@ -1,5 +1,5 @@
 use borrow.Author.Needs.{needs}
-use Rattle.loads.proofs.Jitters.{jitter-under}
+use Rattle.loads.proofs.JitteredLaws.{jitter-under}
 use Rattle.loads.proofs.jittered.JitteredKind.request.Needs as need
 
 pub add-min : need.add-min

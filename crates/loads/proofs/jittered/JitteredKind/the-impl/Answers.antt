@@ -1,4 +1,4 @@
-use Rattle.loads.proofs.Jitters.{jittered-laws}
+use Rattle.loads.proofs.JitteredLaws.{jittered-laws}
 use Rattle.loads.proofs.jittered.JitteredKind.the-impl.Needs as need
 
 pub laws-law : need.laws-law

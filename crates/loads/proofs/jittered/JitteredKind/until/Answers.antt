@@ -1,7 +1,7 @@
 use borrow.Author.Needs.{needs}
 use native.Mathlib.Omega.{arith}
 use Rattle.loads.specs.Kind.{Kind, Laws}
-use Rattle.loads.proofs.Jitters.{jitter-under, lasts-below, jitter-before, jittered-until-some, jittered-until-zero}
+use Rattle.loads.proofs.JitteredLaws.{jitter-under, lasts-below, jitter-before, jittered-until-some, jittered-until-zero}
 use Rattle.loads.proofs.jittered.JitteredKind.until.Needs as need
 
 pub add-min : need.add-min

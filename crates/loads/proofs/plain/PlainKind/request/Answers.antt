@@ -1,6 +1,6 @@
 use borrow.Author.Needs.{needs}
 use Rattle.loads.proofs.Periodic.{periods-few, work-small}
-use Rattle.loads.proofs.Plains.{plain-periodic}
+use Rattle.loads.proofs.PlainLaws.{plain-periodic}
 use Rattle.loads.proofs.plain.PlainKind.request.Needs as need
 
 pub begun-requires : need.begun-requires

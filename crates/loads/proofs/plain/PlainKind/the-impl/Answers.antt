@@ -1,4 +1,4 @@
-use Rattle.loads.proofs.Plains.{plain-laws}
+use Rattle.loads.proofs.PlainLaws.{plain-laws}
 use Rattle.loads.proofs.plain.PlainKind.the-impl.Needs as need
 
 pub laws-law : need.laws-law
