@@ -6,7 +6,7 @@ use Rattle.std.specs.declared.result.Result.{Result}
 use Rattle.std.specs.declared.result.Result.the-variants.{Ok, Err}
 use Rattle.loads.specs.declared.rows.RowFault.{RowFault}
 
--- m, or, where m is 0, what the entry with index i adds to it: its number where it does not pass
+-- m, the fault found so far; where that is 0, the number of the entry with index i unless it passes
 abbrev pub or-entry : ℕ → Bool → ℕ → ℕ
 or-entry zero passes i = cond passes 0 (suc i)
 or-entry (suc m) passes i = suc m
