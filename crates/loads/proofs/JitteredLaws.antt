@@ -76,20 +76,21 @@ module _ (k : Kind) (laws : Laws k) where
               omega (arith, ap asks z, f .rises 1 v above fits, f .first-job 1 (omega arith) (f .separation-low), f .longest-low);
         })
 
-    -- what the kind below answers of the row that it gets
-    pub lasts-below : (b : List ℕ) (m t u : ℕ) → b ≡ row-below row → m ≡ min t horizon → (k .fault b ≡ 0 → Until horizon (k .request b) (m + jitter row) u) → Until horizon (k .request (row-below row)) (min t horizon + jitter row) u
-    lasts-below b m t u same-row same-instant lasts =
-        let P : List ℕ → Type 0 = λ a. Until horizon (k .request a) (m + jitter row) u in
-        let Q : ℕ → Type 0 = λ n. Until horizon (k .request (row-below row)) (n + jitter row) u in
-        subst Q same-instant (subst P same-row (lasts (ap (k .fault) same-row ∙ lawful-below)))
+    -- where the request below changes after u, within the horizon: the kind below answered u, asked of the row b at the instant m and the jitter
+    module _ (b : List ℕ) (m t u : ℕ) (same-row : b ≡ row-below row) (same-instant : m ≡ min t horizon) (some : 1 ≤ t) (answer : k .fault b ≡ 0 → Until horizon (k .request b) (m + jitter row) u) (changes : u ≢ horizon) where
+      lasts : Until horizon (k .request (row-below row)) (min t horizon + jitter row) u
+      lasts =
+          let P : List ℕ → Type 0 = λ a. Until horizon (k .request a) (m + jitter row) u in
+          let Q : ℕ → Type 0 = λ n. Until horizon (k .request (row-below row)) (n + jitter row) u in
+          subst Q same-instant (subst P same-row (answer (ap (k .fault) same-row ∙ lawful-below)))
 
-    -- where the request below changes after u, within the horizon: no later instant has it, and u is so much jitter after t
-    module _ (t u : ℕ) (some : 1 ≤ t) (lasts : Until horizon (k .request (row-below row)) (min t horizon + jitter row) u) (changes : u ≢ horizon) where
+      -- no later instant has the same request
       changed : (v : ℕ) → u < v → k .request (row-below row) v ≢ k .request (row-below row) (min t horizon + jitter row)
       changed v above same =
           let within = lasts .within in
           lasts .greatest (min v horizon) (omega arith) (omega arith) (sym (laws .late (row-below row) v) ∙ same)
 
+      -- u is so much jitter after t
       pub jitter-before : min t horizon + jitter row ≤ u
       jitter-before =
           ⊎-elim
