@@ -1,4 +1,6 @@
 //! When work is served: requests together, slack and first instants, for any load kind and any supply.
+#![tactic(auto)]
+
 mod instants;
 mod requests;
 mod slacks;

@@ -1,120 +1,43 @@
-//! Replays a small history of edits and prints what was answered, then the figures of the set that it leaves.
-use ledger::{Edit, Mark, SetFault};
+//! Judges a small task set and prints what it finds, in plain words.
+#![tactic(auto)]
+
+use analysis::{first_instant, slack, work};
 use loads::{LoadKind, Plain, Row};
 use supplies::{Supply, Whole};
-use taskset::{TaskSet, replay};
 
-/// A plain task with jobs of `job` ticks, `period` apart, put in at a position.
-fn insert(position: u64, job: u64, period: u64, deadline: u64) -> Edit {
-    let row: Row = [job, period, 0, 0, 0, 0, 0, 0];
-    Edit::Insert {
-        position,
-        row,
-        deadline,
+/// The rows of two plain tasks, the most urgent first. The lower one is served, although its work at the deadline is more than is
+/// supplied there.
+const ROWS: [Row; 2] = [[4, 10, 0, 0, 0, 0, 0, 0], [5, 11, 0, 0, 0, 0, 0, 0]];
+
+/// Their deadlines.
+const DEADLINES: [u64; 2] = [10, 11];
+
+/// Prints what there is to say of the task with this row and deadline, below the rows above it.
+fn judge(rt: &impl Print, above: &[Row], row: &Row, deadline: u64) -> anyhow::Result<()> {
+    let position = above.len() as u128 + 1;
+    let longest = Plain.longest(row);
+    let separation = Plain.separation(row);
+    let slack = slack(&Plain, &Whole, above, longest, deadline);
+    let work = work(&Plain, above, longest, deadline);
+    let supplied = Whole.supplied(deadline);
+    println!(rt;
+        "Position {position}: jobs of {longest} ticks, {separation} apart, deadline {deadline}."
+    )?;
+    println!(rt; "  Slack: {slack}.")?;
+    match first_instant(&Plain, &Whole, above, longest, deadline) {
+        Some(instant) => println!(rt; "  First instant: {instant}, so the task is served.")?,
+        None => println!(rt; "  First instant: none, so the task is not served.")?,
     }
-}
-
-/// A section of a task on a resource.
-fn section(position: u64, resource: u64, length: u64) -> Edit {
-    Edit::Section {
-        position,
-        resource,
-        length,
-    }
-}
-
-/// Three plain tasks, the most urgent first, that share two resources; then a task that would leave the first no instant, and a
-/// section longer than a job of its task.
-fn example() -> [Edit; 8] {
-    [
-        insert(1, 2, 10, 5),
-        insert(2, 3, 15, 12),
-        insert(3, 5, 30, 30),
-        section(2, 1, 1),
-        section(3, 1, 3),
-        section(3, 2, 4),
-        insert(1, 6, 20, 20),
-        section(3, 1, 6),
-    ]
-}
-
-/// Prints an edit in plain words.
-fn print_edit(rt: &impl Print, edit: &Edit) -> anyhow::Result<()> {
-    match edit {
-        Edit::Insert {
-            position,
-            row,
-            deadline,
-        } => {
-            let [job, period, ..] = row;
-            print!(rt;
-                "Insert at {position}: jobs of {job} ticks, {period} apart, deadline {deadline}"
-            )?
-        }
-        Edit::Withdraw { position } => print!(rt; "Withdraw {position}")?,
-        Edit::Section {
-            position,
-            resource,
-            length,
-        } => print!(rt; "Section of task {position} on resource {resource}, length {length}")?,
-        Edit::Mark {
-            resource,
-            mark: Mark::Lowered,
-        } => print!(rt; "Mark resource {resource} lowered")?,
-        Edit::Mark {
-            resource,
-            mark: Mark::Kept,
-        } => print!(rt; "Mark resource {resource} kept")?,
-    }
+    println!(rt;
+        "  At the deadline itself the work adds up to {work}, and {supplied} ticks are supplied."
+    )?;
     Ok(())
 }
 
-/// Prints what an edit was answered.
-fn print_answer(rt: &impl Print, answer: &Result<(), SetFault>) -> anyhow::Result<()> {
-    match answer {
-        Ok(()) => println!(rt; ": taken.")?,
-        Err(fault) => {
-            let number = fault.number();
-            println!(rt; ": refused with {number}.")?
-        }
-    }
-    Ok(())
-}
-
-/// Prints the figures of every task and of every resource that is in use.
-fn print_figures<K: LoadKind, S: Supply>(
-    rt: &impl Print,
-    set: &TaskSet<K, S>,
-) -> anyhow::Result<()> {
-    for position in 1..=set.count() as u64 {
-        if let Ok((blocking, slack, first)) = set.task(position) {
-            println!(rt;
-                "Task {position}: blocking {blocking}, slack {slack}, first instant {first}."
-            )?;
-        }
-    }
-    for resource in 1..=16 {
-        if let Ok((natural, held, hold)) = set.resource(resource) {
-            if natural > 0 {
-                println!(rt;
-                    "Resource {resource}: natural ceiling {natural}, held ceiling {held}, hold time {hold}."
-                )?;
-            }
-        }
-    }
-    Ok(())
-}
-
-/// Replays the example, and prints it.
 fn run(rt: &impl Print) -> anyhow::Result<()> {
-    let edits = example();
-    let mut answers = [Ok(()); 8];
-    if let Some(set) = replay(Plain, Whole, &edits, &mut answers) {
-        for (edit, answer) in edits.iter().zip(answers.iter()) {
-            print_edit(rt, edit)?;
-            print_answer(rt, answer)?;
-        }
-        print_figures(rt, &set)?;
+    println!(rt; "Two plain tasks on the whole processor, the most urgent first.")?;
+    for index in 0..2 {
+        judge(rt, &ROWS[0..index], &ROWS[index], DEADLINES[index])?;
     }
     Ok(())
 }

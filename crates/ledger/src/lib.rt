@@ -1,4 +1,6 @@
 //! What the edits of a task set enter, and what then must hold: the ledger, tables of ceilings, and histories of edits.
+#![tactic(auto)]
+
 mod edit;
 mod fault;
 

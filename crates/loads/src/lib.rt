@@ -1,4 +1,6 @@
 //! What work can arrive: load kinds, which say what a task's row of eight numbers means.
+#![tactic(auto)]
+
 mod framed;
 mod jittered;
 mod kind;

@@ -1,4 +1,6 @@
 //! What time is given: supplies of processor time.
+#![tactic(auto)]
+
 mod fault;
 mod share;
 mod supply;

@@ -1,4 +1,6 @@
 //! The plain inner table of a task set: what was entered, and the ceilings that are held.
+#![tactic(auto)]
+
 mod blank;
 mod edits;
 mod index;

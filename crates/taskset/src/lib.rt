@@ -1,4 +1,6 @@
 //! Task sets under static priorities and the Stack Resource Policy: four edits, the lowest ceilings, and hold times.
+#![tactic(auto)]
+
 mod answers;
 mod edits;
 mod histories;
