@@ -6,8 +6,8 @@ use Rattle.analysis.proofs.Serving.{none_covered, none_until, none_by_some, cove
 use Rattle.analysis.proofs.Totals.{request_bounded, requests_more, requests_all}
 use Rattle.analysis.proofs.instants.first_instant.Goals as goal
 
-pub overflow-add-asked : goal.overflow-add-asked
-overflow-add-asked g c =
+pub overflow_add-asked : goal.overflow_add-asked
+overflow_add-asked g c =
     let small = request_bounded (g.K.LoadKind.means c.args.kind.now) (g.met.K.LoadKind.laws c.args.kind.now) (get_or c.args.above.now c.loop-row.row-index []) c.instants.t in
     search rules
 
@@ -31,13 +31,13 @@ returns-then-t-limit g c =
     let none : (v : ℕ) → 1 ≤ v → v ≤ c.args.limit → p v ≡ false = λ v some within. c.instants.invariant.2 v some (omega arith) in
     record { is = earliest_unique p c.args.limit None none; earliest = none }
 
-pub returns-then-asked-gt-LAST-INSTANT : goal.returns-then-asked-gt-LAST-INSTANT
-returns-then-asked-gt-LAST-INSTANT g c =
+pub returns-then-asked-gt-LAST_INSTANT : goal.returns-then-asked-gt-LAST_INSTANT
+returns-then-asked-gt-LAST_INSTANT g c =
     let k = g.K.LoadKind.means c.args.kind.now in
     let s = g.S.Supply.gives c.args.supply.now in
     let p : ℕ → Bool = covered k s c.args.above.now c.args.base in
     let none : (v : ℕ) → 1 ≤ v → v ≤ c.args.limit → p v ≡ false = λ v some within.
-    none_by_some k (g.met.K.LoadKind.laws c.args.kind.now) s (g.met.S.Supply.laws c.args.supply.now) c.args.above.now c.args.base c.instants.t c.loop-row.row-index c.loop-row.asked c.instants.invariant.2 c.loop-row.invariant c.if-asked-gt-LAST-INSTANT.true v some in
+    none_by_some k (g.met.K.LoadKind.laws c.args.kind.now) s (g.met.S.Supply.laws c.args.supply.now) c.args.above.now c.args.base c.instants.t c.loop-row.row-index c.loop-row.asked c.instants.invariant.2 c.loop-row.invariant c.if-asked-gt-LAST_INSTANT.true v some in
     record { is = earliest_unique p c.args.limit None none; earliest = none }
 
 pub returns-in-None : goal.returns-in-None

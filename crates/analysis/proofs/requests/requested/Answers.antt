@@ -3,8 +3,8 @@ use Rattle.loads.specs.Kind.{Kind}
 use Rattle.analysis.proofs.Totals.{request_bounded, requests_more, requests_all}
 use Rattle.analysis.proofs.requests.requested.Goals as goal
 
-pub overflow-add-sum : goal.overflow-add-sum
-overflow-add-sum g c =
+pub overflow_add-sum : goal.overflow_add-sum
+overflow_add-sum g c =
     let small = request_bounded (g.K.LoadKind.means c.args.kind.now) (g.met.K.LoadKind.laws c.args.kind.now) (get_or c.args.rows.now c.loop-row.row-index []) c.args.t in
     search rules
 

@@ -13,10 +13,10 @@ loop-end-init g c =
     let k = g.K.LoadKind.means c.args.kind.now in
     let s = g.S.Supply.gives c.args.supply.now in
     let left : ℕ → ℤ = left_over k s c.args.above.now c.args.longest in
-    let end : ℕ = c.stretch-end-end.result in
-    let fits : SFits w128 c.left-at-most.result = search rules in
-    let is = to_z-of_z w128 c.left-at-most.result fits ∙ c.left-at-most.ensures in
-    let (after, within, most) = first_stretch k (g.met.K.LoadKind.laws c.args.kind.now) s (g.met.S.Supply.laws c.args.supply.now) c.args.above.now c.args.longest c.max-limit.result c.args.from end (omega arith) c.stretch-end-end.ensures in
+    let end : ℕ = c.stretch_end-end.result in
+    let fits : SFits w128 c.left_at-most.result = search rules in
+    let is = to_z-of_z w128 c.left_at-most.result fits ∙ c.left_at-most.ensures in
+    let (after, within, most) = first_stretch k (g.met.K.LoadKind.laws c.args.kind.now) s (g.met.S.Supply.laws c.args.supply.now) c.args.above.now c.args.longest c.max-limit.result c.args.from end (omega arith) c.stretch_end-end.ensures in
     (after, within, subst (Largest left c.args.from end) (sym is) most)
 
 pub loop-end-preserved : goal.loop-end-preserved
@@ -24,12 +24,12 @@ loop-end-preserved g c =
     let k = g.K.LoadKind.means c.args.kind.now in
     let s = g.S.Supply.gives c.args.supply.now in
     let left : ℕ → ℤ = left_over k s c.args.above.now c.args.longest in
-    let end : ℕ = c.stretch-end-end-in-loop-end.result in
+    let end : ℕ = c.stretch_end-end-in-loop-end.result in
     let d : ℕ = c.loop-end.end in
-    let fits : SFits w128 c.left-at.result = search rules in
+    let fits : SFits w128 c.left_at.result = search rules in
     let fits' : SFits w128 c.max-most.result = search rules in
-    let is = to_z-of_z w128 c.max-most.result fits' ∙ c.max-most.ensures.value ∙ ap (int_max _) (to_z-of_z w128 c.left-at.result fits ∙ c.left-at.ensures) in
-    let (after, within, most) = next_stretch k (g.met.K.LoadKind.laws c.args.kind.now) s (g.met.S.Supply.laws c.args.supply.now) c.args.above.now c.args.longest c.max-limit.result (d + 1) end (omega arith) c.stretch-end-end-in-loop-end.ensures c.args.from d _ c.loop-end.invariant.0 refl c.loop-end.invariant.2 in
+    let is = to_z-of_z w128 c.max-most.result fits' ∙ c.max-most.ensures.value ∙ ap (int_max _) (to_z-of_z w128 c.left_at.result fits ∙ c.left_at.ensures) in
+    let (after, within, most) = next_stretch k (g.met.K.LoadKind.laws c.args.kind.now) s (g.met.S.Supply.laws c.args.supply.now) c.args.above.now c.args.longest c.max-limit.result (d + 1) end (omega arith) c.stretch_end-end-in-loop-end.ensures c.args.from d _ c.loop-end.invariant.0 refl c.loop-end.invariant.2 in
     (after, within, subst (Largest left c.args.from end) (sym is) most)
 
 pub returns : goal.returns

@@ -4,14 +4,14 @@ use Rattle.loads.specs.FramedLaws.{count_low, count_high, place}
 use Rattle.loads.specs.Frames.{frames_cycles, largest_of_more}
 use Rattle.loads.proofs.framed.busiest_run.Goals as goal
 
-pub nonzero-div-cycles : goal.nonzero-div-cycles
-nonzero-div-cycles c = let low = count_low c.args.row.now c.requires.0 in search rules
+pub nonzero_div-cycles : goal.nonzero_div-cycles
+nonzero_div-cycles c = let low = count_low c.args.row.now c.requires.0 in search rules
 
-pub sum-of-frames-requires : goal.sum-of-frames-requires
-sum-of-frames-requires c = let high = count_high c.args.row.now c.requires.0 in (c.requires.0, (omega arith, omega arith))
+pub sum_of_frames-requires : goal.sum_of_frames-requires
+sum_of_frames-requires c = let high = count_high c.args.row.now c.requires.0 in (c.requires.0, (omega arith, omega arith))
 
-pub sum-of-frames-requires-in-loop-start : goal.sum-of-frames-requires-in-loop-start
-sum-of-frames-requires-in-loop-start c =
+pub sum_of_frames-requires-in-loop-start : goal.sum_of_frames-requires-in-loop-start
+sum_of_frames-requires-in-loop-start c =
     let high = count_high c.args.row.now c.requires.0 in
     let rest = place c.args.row.now c.requires.0 c.args.n in
     (c.requires.0, (omega arith, omega arith))
@@ -20,5 +20,5 @@ pub loop-start-preserved : goal.loop-start-preserved
 loop-start-preserved c =
     let row = c.args.row.now in
     let k : ℕ = frame_count row in
-    let cycles : c.args.n / k * c.sum-of-frames.result ≡ c.args.n / k * frames row 0 k = ap (λ x. c.args.n / k * x) c.sum-of-frames.ensures.is in
+    let cycles : c.args.n / k * c.sum_of_frames.result ≡ c.args.n / k * frames row 0 k = ap (λ x. c.args.n / k * x) c.sum_of_frames.ensures.is in
     omega (arith, cycles, frames_cycles row c.loop-start.start c.args.n, largest_of_more (λ s. frames row s c.args.n) c.loop-start.start)

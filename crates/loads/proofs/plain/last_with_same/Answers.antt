@@ -4,9 +4,9 @@ use Rattle.loads.specs.Periodic.{periodic_until}
 use Rattle.loads.specs.PlainLaws.{plain_periodic}
 use Rattle.loads.proofs.plain.last_with_same.Goals as goal
 
-pub last-before-next-requires : goal.last-before-next-requires
-last-before-next-requires c = let p = plain_periodic c.args.row.now c.requires in (p.period_low, p.period_high)
+pub last_before_next-requires : goal.last_before_next-requires
+last_before_next-requires c = let p = plain_periodic c.args.row.now c.requires in (p.period_low, p.period_high)
 
 pub returns : goal.returns
 returns c =
-    periodic_until _ _ (plain_periodic c.args.row.now c.requires) plain_formulas c.args.row.now (λ t. refl) c.requires c.args.t c.last-before-next.result c.last-before-next.ensures
+    periodic_until _ _ (plain_periodic c.args.row.now c.requires) plain_formulas c.args.row.now (λ t. refl) c.requires c.args.t c.last_before_next.result c.last_before_next.ensures

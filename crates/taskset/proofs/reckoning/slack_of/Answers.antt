@@ -22,8 +22,8 @@ small g c =
 large : (g : Over) (c : After-slack g) → SFits w128 c.slack.result
 large g c = search rules
 
-pub overflow-cast-result : goal.overflow-cast-result
-overflow-cast-result g c = subst (λ (z : ℤ). SFits w64 z) (sym (to_z-of_z w128 c.slack.result (large g c))) (small g c)
+pub overflow_cast-result : goal.overflow_cast-result
+overflow_cast-result g c = subst (λ (z : ℤ). SFits w64 z) (sym (to_z-of_z w128 c.slack.result (large g c))) (small g c)
 
 pub returns : goal.returns
 returns g c =

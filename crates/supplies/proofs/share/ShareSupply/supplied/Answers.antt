@@ -9,14 +9,14 @@ returns-then-self c =
     let s = c.args.self.now in
     c.min-t.ensures ∙ sym (share_whole s.budget s.period s.some s.part c.if-self.true (min c.args.t last_instant))
 
-pub overflow-sub-end-2 : goal.overflow-sub-end-2
-overflow-sub-end-2 c =
+pub overflow_sub-end-2 : goal.overflow_sub-end-2
+overflow_sub-end-2 c =
     let s = c.args.self.now in
     let part = s.part in
     omega (arith, mul-le 2 s.period (c.max-round.result + 1) s.period (omega arith) (omega arith))
 
-pub overflow-sub-result : goal.overflow-sub-result
-overflow-sub-result c =
+pub overflow_sub-result : goal.overflow_sub-result
+overflow_sub-result c =
     let s = c.args.self.now in
     let n : ℕ = c.max-round.result + 1 in
     omega (arith, parts s.budget s.period s.some s.part n, mul-le 2 s.budget n s.budget (omega arith) (omega arith))

@@ -5,8 +5,8 @@ use Rattle.ledger.proofs.Lowest.{lowest_natural}
 use Rattle.table.specs.Tables.{ledger}
 use Rattle.table.proofs.table.Table.settle.Goals as goal
 
-pub invariant-of-self : goal.invariant-of-self
-invariant-of-self c =
+pub invariant_of-self : goal.invariant_of-self
+invariant_of-self c =
     let t = c.args.self.now in (
       t.few,
       (
@@ -16,7 +16,7 @@ invariant-of-self c =
           (
             t.unused,
             (
-              λ j low high. omega (arith, ap (λ ceilings. ceiling ceilings j) c.lowest-ceilings-self.ensures, lowest_natural (slack_at c.args.slacks.now) (ledger t) j low high),
+              λ j low high. omega (arith, ap (λ ceilings. ceiling ceilings j) c.lowest_ceilings-self.ensures, lowest_natural (slack_at c.args.slacks.now) (ledger t) j low high),
               tt,
             ),
           ),

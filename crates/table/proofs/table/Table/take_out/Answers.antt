@@ -5,8 +5,8 @@ use Rattle.table.proofs.FlatTasks.{tasks_removed}
 use Rattle.table.proofs.Unsettled.{no_number, unsettled_under}
 use Rattle.table.proofs.table.Table.take_out.Goals as goal
 
-pub invariant-of-self : goal.invariant-of-self
-invariant-of-self c =
+pub invariant_of-self : goal.invariant_of-self
+invariant_of-self c =
     let t = c.args.self.now in
     let n = t.count in (
       omega arith,
@@ -22,8 +22,8 @@ invariant-of-self c =
               (cases_lt k n),
           (
             λ k h. ⊎_elim
-                (λ (here : k < 16 * n). c.remove-sixteen.ensures.last k 0 h here)
-                (λ (past : 16 * n ≤ k). c.remove-sixteen.ensures.rest k 0 past ∙ t.unused k past)
+                (λ (here : k < 16 * n). c.remove_sixteen.ensures.last k 0 h here)
+                (λ (past : 16 * n ≤ k). c.remove_sixteen.ensures.rest k 0 past ∙ t.unused k past)
                 (cases_lt k (16 * n)),
             (
               λ j low high. unsettled_under j _,
@@ -37,8 +37,8 @@ invariant-of-self c =
 pub returns : goal.returns
 returns c =
     let t = c.args.self.now in
-    let tasks = tasks_removed t.rows c.remove.new.xs t.deadlines c.remove-2.new.xs t.sections c.remove-sixteen.new.xs t.count c.args.at (omega arith)
-    (λ i h. record { row = c.remove.ensures.before i [] h; deadline = c.remove-2.ensures.before i 0 h; lengths = c.remove-sixteen.ensures.before i h })
-    (λ i h l. record { row = c.remove.ensures.behind i [] h l; deadline = c.remove-2.ensures.behind i 0 h l; lengths = c.remove-sixteen.ensures.behind i h l }) in
+    let tasks = tasks_removed t.rows c.remove.new.xs t.deadlines c.remove-2.new.xs t.sections c.remove_sixteen.new.xs t.count c.args.at (omega arith)
+    (λ i h. record { row = c.remove.ensures.before i [] h; deadline = c.remove-2.ensures.before i 0 h; lengths = c.remove_sixteen.ensures.before i h })
+    (λ i h l. record { row = c.remove.ensures.behind i [] h l; deadline = c.remove-2.ensures.behind i 0 h l; lengths = c.remove_sixteen.ensures.behind i h l }) in
     let F : List Task → Ledger = λ x. record { tasks = x; marks = t.marks } in
     record { ledger = rw (add-sub_cancel c.args.at 1, add-one c.args.at) (ap F tasks); ceilings = refl }

@@ -18,7 +18,7 @@ returns g c =
     let deadline : ℕ = get_or c.deadlines.result.now at 0 in
     let longest = c.longest-longest.ensures ∙ ap (λ (xs : List (List ℕ)). k.longest (get_or xs at [])) c.rows.ensures.is in
     c.covered_at.ensures
-    ∙ ap (λ (n : ℕ). or_0 (first_covered k s above n deadline)) c.saturating-add.ensures
+    ∙ ap (λ (n : ℕ). or_0 (first_covered k s above n deadline)) c.saturating_add.ensures
     ∙ ap or_0 (cut_off k s (g.met.S.Supply.laws c.args.self.now.supply) above c.longest-longest.result c.args.blocking deadline)
     ∙ ap (λ (n : ℕ). or_0 (first_covered k s above (n + c.args.blocking) deadline)) longest
     ∙ ap (λ (ds : List ℕ). or_0 (first_covered k s above (k.longest (get_or (rows l) at []) + c.args.blocking) (get_or ds at 0))) c.deadlines.ensures.is

@@ -5,32 +5,32 @@ use Rattle.ledger.specs.declared.fault.SetFault.TheVariants.{Row, Deadline}
 use Rattle.taskset.proofs.Steps.{refused, refused_on, refused_by, row_refused, insert_asked, served_untouched}
 use Rattle.taskset.proofs.set.TaskSet.insert.Goals as goal
 
-pub returns-in-err-insert : goal.returns-in-err-insert
-returns-in-err-insert g c =
+pub returns-in_err-insert : goal.returns-in_err-insert
+returns-in_err-insert g c =
     let k = g.K.LoadKind.means c.args.self.now.kind in
     let s = g.S.Supply.gives c.args.self.now.supply in
     let t = c.args.self.now.table in
-    let said = c.in-err-insert.ensures in
-    let (same, turn) = refused_by k s (Insert c.args.position c.args.row c.args.deadline) c.in-err-insert.field-0.0 t t c.from-residual.result c.from-residual.ensures.1 said.entered.0 refl in
+    let said = c.in_err-insert.ensures in
+    let (same, turn) = refused_by k s (Insert c.args.position c.args.row c.args.deadline) c.in_err-insert.field-0.0 t t c.from_residual.result c.from_residual.ensures.1 said.entered.0 refl in
     record { kind = refl; supply = refl; untouched = same; steps = turn.0; goes_on = turn.1 }
 
-pub returns-in-err-lawful : goal.returns-in-err-lawful
-returns-in-err-lawful g c =
+pub returns-in_err-lawful : goal.returns-in_err-lawful
+returns-in_err-lawful g c =
     let k = g.K.LoadKind.means c.args.self.now.kind in
     let s = g.S.Supply.gives c.args.self.now.supply in
     let t = c.args.self.now.table in
-    let fault = c.in-err-lawful.field-0.0 in
-    let refusal = row_refused k s c.args.position c.args.row c.args.deadline fault t c.insert.new.self c.in-ok-insert.ensures.entered c.in-err-lawful.ensures in
-    let (same, turn) = refused_on k s (Insert c.args.position c.args.row c.args.deadline) (Row fault) t c.from-residual-in-err-lawful.result c.from-residual-in-err-lawful.ensures.1 refusal in
+    let fault = c.in_err-lawful.field-0.0 in
+    let refusal = row_refused k s c.args.position c.args.row c.args.deadline fault t c.insert.new.self c.in_ok-insert.ensures.entered c.in_err-lawful.ensures in
+    let (same, turn) = refused_on k s (Insert c.args.position c.args.row c.args.deadline) (Row fault) t c.from_residual-in_err-lawful.result c.from_residual-in_err-lawful.ensures.1 refusal in
     record { kind = refl; supply = refl; untouched = same; steps = turn.0; goes_on = turn.1 }
 
-pub returns-then-not-from-one-to : goal.returns-then-not-from-one-to
-returns-then-not-from-one-to g c =
+pub returns-then-not-from_one_to : goal.returns-then-not-from_one_to
+returns-then-not-from_one_to g c =
     let k = g.K.LoadKind.means c.args.self.now.kind in
     let s = g.S.Supply.gives c.args.self.now.supply in
-    let ((room, (gap, _)), _) = c.in-ok-insert.ensures.entered in
-    let late : (1 ≤ c.args.deadline) × (c.args.deadline ≤ k.separation c.args.row) → ⊥ = λ within. not_from_Decides c.from-one-to.result c.from-one-to.ensures c.if-not-from-one-to.true (within.0, omega (arith, within.1, c.separation.ensures)) in
-    let turn = refused k s (Insert c.args.position c.args.row c.args.deadline) Deadline c.args.self.now.table (λ _. inr (room, inr (gap, inr (c.in-ok-lawful.ensures, inl (late, refl))))) in
+    let ((room, (gap, _)), _) = c.in_ok-insert.ensures.entered in
+    let late : (1 ≤ c.args.deadline) × (c.args.deadline ≤ k.separation c.args.row) → ⊥ = λ within. not_from_Decides c.from_one_to.result c.from_one_to.ensures c.if-not-from_one_to.true (within.0, omega (arith, within.1, c.separation.ensures)) in
+    let turn = refused k s (Insert c.args.position c.args.row c.args.deadline) Deadline c.args.self.now.table (λ _. inr (room, inr (gap, inr (c.in_ok-lawful.ensures, inl (late, refl))))) in
     record {
       kind = refl;
       supply = refl;
@@ -43,12 +43,12 @@ pub returns : goal.returns
 returns g c =
     let k = g.K.LoadKind.means c.args.self.now.kind in
     let s = g.S.Supply.gives c.args.self.now.supply in
-    let within = c.from-one-to.ensures.0 c.if-not-from-one-to.false in
-    let turn = insert_asked k s (g.met.K.LoadKind.laws c.args.self.now.kind) c.args.position c.args.row c.args.deadline c.args.self.now.table c.insert.new.self c.take-over.new.self.table c.take-over.result c.in-ok-insert.ensures.entered c.in-ok-lawful.ensures (within.0, omega (arith, within.1, c.separation.ensures)) c.take-over.ensures.served in
+    let within = c.from_one_to.ensures.0 c.if-not-from_one_to.false in
+    let turn = insert_asked k s (g.met.K.LoadKind.laws c.args.self.now.kind) c.args.position c.args.row c.args.deadline c.args.self.now.table c.insert.new.self c.take_over.new.self.table c.take_over.result c.in_ok-insert.ensures.entered c.in_ok-lawful.ensures (within.0, omega (arith, within.1, c.separation.ensures)) c.take_over.ensures.served in
     record {
-      kind = c.take-over.ensures.kind;
-      supply = c.take-over.ensures.supply;
-      untouched = served_untouched k s c.insert.new.self c.args.self.now.table c.take-over.new.self.table c.take-over.result c.take-over.ensures.served;
+      kind = c.take_over.ensures.kind;
+      supply = c.take_over.ensures.supply;
+      untouched = served_untouched k s c.insert.new.self c.args.self.now.table c.take_over.new.self.table c.take_over.result c.take_over.ensures.served;
       steps = turn.0;
       goes_on = turn.1;
     }
