@@ -14,8 +14,8 @@ pub fn first_instant<K: LoadKind, S: Supply>(
     base: u64,
     limit: u64,
 ) -> Option<u64>
-    ensures is { result ≡ first_covered (means kind.now) (gives supply.now) above.now base limit }
-    ensures earliest { Earliest (covered (means kind.now) (gives supply.now) above.now base) limit result }
+    ensures is { result ≡ first_covered (K.means kind.now) (S.gives supply.now) above.now base limit }
+    ensures earliest { Earliest (covered (K.means kind.now) (S.gives supply.now) above.now base) limit result }
 {
     let mut t: u64 = 1;
     'instants: loop {

@@ -12,7 +12,7 @@ use supplies::{LAST_INSTANT, Supply};
 /// The greatest instant up to the limit at which the row asks for what it asks for at `t`. An unlawful row never asks for anything.
 fn unchanged_until<K: LoadKind>(kind: &K, row: &Row, t: u64, limit: u64) -> u64
     requires { (1 ≤ t) × ((t ≤ limit) × (limit ≤ last_instant)) }
-    ensures { Until limit ((means kind.now).request row.now) t result }
+    ensures { Until limit ((K.means kind.now).request row.now) t result }
 {
     let until = kind.until(row, t);
     if until < t { limit } else { until.min(limit) }
@@ -21,7 +21,7 @@ fn unchanged_until<K: LoadKind>(kind: &K, row: &Row, t: u64, limit: u64) -> u64
 /// The end of the stretch from `t` on: the greatest instant up to the limit at which the rows ask for what they ask for at `t`.
 fn stretch_end<K: LoadKind>(kind: &K, rows: &[Row], t: u64, limit: u64) -> u64
     requires { (1 ≤ t) × ((t ≤ limit) × (limit ≤ last_instant)) }
-    ensures { Until limit (requests (means kind.now) rows.now) t result }
+    ensures { Until limit (requests (K.means kind.now) rows.now) t result }
 {
     let mut end = limit;
     for row in rows {
@@ -38,7 +38,7 @@ fn left_at<K: LoadKind, S: Supply>(
     longest: u64,
     t: u64,
 ) -> i128
-    ensures { result ≡ left_over (means kind.now) (gives supply.now) above.now longest t }
+    ensures { result ≡ left_over (K.means kind.now) (S.gives supply.now) above.now longest t }
 {
     i128::from(supply.supplied(t)) - work(kind, above, longest, t) as i128
 }
@@ -54,8 +54,8 @@ fn most_left<K: LoadKind, S: Supply>(
     to: u64,
 ) -> i128
     requires { (1 ≤ from) × (from ≤ last_instant) }
-    ensures is { result ≡ largest (left_over (means kind.now) (gives supply.now) above.now longest) from (to - from) }
-    ensures greatest { Largest (left_over (means kind.now) (gives supply.now) above.now longest) from to result }
+    ensures is { result ≡ largest (left_over (K.means kind.now) (S.gives supply.now) above.now longest) from (to - from) }
+    ensures greatest { Largest (left_over (K.means kind.now) (S.gives supply.now) above.now longest) from to result }
 {
     let limit = to.min(LAST_INSTANT).max(from);
     let mut end = stretch_end(kind, above, from, limit);
@@ -76,8 +76,8 @@ pub fn slack<K: LoadKind, S: Supply>(
     longest: u64,
     deadline: u64,
 ) -> i128
-    ensures is { result ≡ slack_of (means kind.now) (gives supply.now) above.now longest deadline }
-    ensures greatest { Largest (left_over (means kind.now) (gives supply.now) above.now longest) 1 deadline result }
+    ensures is { result ≡ slack_of (K.means kind.now) (S.gives supply.now) above.now longest deadline }
+    ensures greatest { Largest (left_over (K.means kind.now) (S.gives supply.now) above.now longest) 1 deadline result }
 {
     most_left(kind, supply, above, longest, 1, deadline)
 }
