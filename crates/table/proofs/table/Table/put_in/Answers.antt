@@ -6,22 +6,13 @@ use Rattle.table.proofs.table.Table.put_in.Goals as goal
 
 pub invariant_of-self : goal.invariant_of-self
 invariant_of-self c =
-    let t = c.args.self.now in (
-      omega arith,
-      (
-        λ k i h. ap (λ row. get_or row i 0) (c.enter.ensures.rest k [] (omega arith)) ∙ t.blank k i (omega arith),
-        (
-          λ k h. c.enter-2.ensures.rest k 0 (omega arith) ∙ t.undated k (omega arith),
-          (
-            λ k h. c.enter_sixteen.ensures.rest k 0 (omega arith) ∙ t.unused k (omega arith),
-            (
-              λ j low high. unsettled_under j _,
-              tt,
-            ),
-          ),
-        ),
-      ),
-    )
+    let t = c.args.self.now in record {
+      few = omega arith;
+      blank = λ k i h. ap (λ row. get_or row i 0) (c.enter.ensures.rest k [] (omega arith)) ∙ t.blank k i (omega arith);
+      undated = λ k h. c.enter-2.ensures.rest k 0 (omega arith) ∙ t.undated k (omega arith);
+      unused = λ k h. c.enter_sixteen.ensures.rest k 0 (omega arith) ∙ t.unused k (omega arith);
+      low = λ j low high. unsettled_under j _;
+    }
 
 pub returns : goal.returns
 returns c =

@@ -8,31 +8,22 @@ use Rattle.table.proofs.table.Table.take_out.Goals as goal
 pub invariant_of-self : goal.invariant_of-self
 invariant_of-self c =
     let t = c.args.self.now in
-    let n = t.count in (
-      omega arith,
-      (
-        λ k i h. ⊎_elim
-            (λ (here : k < n). let last : k ≡ n - 1 = omega arith in ap (λ (q : ℕ). get_or (get_or c.remove.new.xs q []) i 0) last ∙ ap (λ (row : List ℕ). get_or row i 0) (c.remove.ensures.last []) ∙ no_number 8 i)
-            (λ (past : n ≤ k). ap (λ row. get_or row i 0) (c.remove.ensures.rest k [] past) ∙ t.blank k i past)
-            (cases_lt k n),
-        (
-          λ k h. ⊎_elim
-              (λ (here : k < n). let last : k ≡ n - 1 = omega arith in ap (λ (q : ℕ). get_or c.remove-2.new.xs q 0) last ∙ c.remove-2.ensures.last 0)
-              (λ (past : n ≤ k). c.remove-2.ensures.rest k 0 past ∙ t.undated k past)
-              (cases_lt k n),
-          (
-            λ k h. ⊎_elim
-                (λ (here : k < 16 * n). c.remove_sixteen.ensures.last k 0 h here)
-                (λ (past : 16 * n ≤ k). c.remove_sixteen.ensures.rest k 0 past ∙ t.unused k past)
-                (cases_lt k (16 * n)),
-            (
-              λ j low high. unsettled_under j _,
-              tt,
-            ),
-          ),
-        ),
-      ),
-    )
+    let n = t.count in record {
+      few = omega arith;
+      blank = λ k i h. ⊎_elim
+          (λ (here : k < n). let last : k ≡ n - 1 = omega arith in ap (λ (q : ℕ). get_or (get_or c.remove.new.xs q []) i 0) last ∙ ap (λ (row : List ℕ). get_or row i 0) (c.remove.ensures.last []) ∙ no_number 8 i)
+          (λ (past : n ≤ k). ap (λ row. get_or row i 0) (c.remove.ensures.rest k [] past) ∙ t.blank k i past)
+          (cases_lt k n);
+      undated = λ k h. ⊎_elim
+          (λ (here : k < n). let last : k ≡ n - 1 = omega arith in ap (λ (q : ℕ). get_or c.remove-2.new.xs q 0) last ∙ c.remove-2.ensures.last 0)
+          (λ (past : n ≤ k). c.remove-2.ensures.rest k 0 past ∙ t.undated k past)
+          (cases_lt k n);
+      unused = λ k h. ⊎_elim
+          (λ (here : k < 16 * n). c.remove_sixteen.ensures.last k 0 h here)
+          (λ (past : 16 * n ≤ k). c.remove_sixteen.ensures.rest k 0 past ∙ t.unused k past)
+          (cases_lt k (16 * n));
+      low = λ j low high. unsettled_under j _;
+    }
 
 pub returns : goal.returns
 returns c =
