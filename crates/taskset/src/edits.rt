@@ -17,7 +17,7 @@ impl<K: LoadKind, S: Supply> TaskSet<K, S> {
     fn settle(&mut self)
         ensures kind { self.new.kind ≡ self.old.kind }
         ensures supply { self.new.supply ≡ self.old.supply }
-        ensures settled { Settled (means self.old.kind) (gives self.old.supply) self.old.table self.new.table }
+        ensures settled { Settled (K.means self.old.kind) (S.gives self.old.supply) self.old.table self.new.table }
     {
         let slacks = slacks(&self.kind, &self.supply, &self.table);
         self.table.settle(&slacks);
@@ -27,7 +27,7 @@ impl<K: LoadKind, S: Supply> TaskSet<K, S> {
     fn take_over(&mut self, mut edited: Table) -> Result<(), SetFault>
         ensures kind { self.new.kind ≡ self.old.kind }
         ensures supply { self.new.supply ≡ self.old.supply }
-        ensures served { TakenOver (means self.old.kind) (gives self.old.supply) edited result self.old.table self.new.table }
+        ensures served { TakenOver (K.means self.old.kind) (S.gives self.old.supply) edited result self.old.table self.new.table }
     {
         let slacks = slacks(&self.kind, &self.supply, &edited);
         if !edited.bearable(&slacks) {
@@ -40,7 +40,7 @@ impl<K: LoadKind, S: Supply> TaskSet<K, S> {
 
     /// Puts a task in at a position; later tasks move down, and the new task uses no resource.
     pub fn insert(&mut self, position: u64, row: Row, deadline: u64) -> Result<(), SetFault>
-        ensures { Edited K.LoadKind.means S.Supply.gives (Insert position row deadline) result self.old self.new }
+        ensures { Edited K.means S.gives (Insert position row deadline) result self.old self.new }
     {
         let mut edited = self.table;
         edited.insert(position, row, deadline)?;
@@ -53,7 +53,7 @@ impl<K: LoadKind, S: Supply> TaskSet<K, S> {
 
     /// Takes the task at a position out; later tasks move up.
     pub fn withdraw(&mut self, position: u64) -> Result<(), SetFault>
-        ensures { Edited K.LoadKind.means S.Supply.gives (Withdraw position) result self.old self.new }
+        ensures { Edited K.means S.gives (Withdraw position) result self.old self.new }
     {
         self.table.withdraw(position)?;
         self.settle();
@@ -62,7 +62,7 @@ impl<K: LoadKind, S: Supply> TaskSet<K, S> {
 
     /// Sets the longest section of a task on a resource, 0 for no use.
     pub fn section(&mut self, position: u64, resource: u64, length: u64) -> Result<(), SetFault>
-        ensures { Edited K.LoadKind.means S.Supply.gives (Section position resource length) result self.old self.new }
+        ensures { Edited K.means S.gives (Section position resource length) result self.old self.new }
     {
         let mut edited = self.table;
         edited.section(position, resource, length)?;
@@ -74,7 +74,7 @@ impl<K: LoadKind, S: Supply> TaskSet<K, S> {
 
     /// Marks a resource.
     pub fn mark(&mut self, resource: u64, mark: Mark) -> Result<(), SetFault>
-        ensures { Edited K.LoadKind.means S.Supply.gives (Marked resource mark) result self.old self.new }
+        ensures { Edited K.means S.gives (Marked resource mark) result self.old self.new }
     {
         self.table.mark(resource, mark)?;
         self.settle();
@@ -83,7 +83,7 @@ impl<K: LoadKind, S: Supply> TaskSet<K, S> {
 
     /// Makes one edit.
     pub fn edit(&mut self, edit: Edit) -> Result<(), SetFault>
-        ensures { Edited K.LoadKind.means S.Supply.gives edit result self.old self.new }
+        ensures { Edited K.means S.gives edit result self.old self.new }
     {
         match edit {
             Edit::Insert {

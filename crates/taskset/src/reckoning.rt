@@ -11,7 +11,7 @@ use table::{Table, index_of};
 
 /// The longest job of the task at a position, 0 where there is none.
 pub(crate) fn longest_job<K: LoadKind>(kind: &K, table: &Table, position: u64) -> u64
-    ensures { Job (means kind.now) (ledger table.now) position result }
+    ensures { Job (K.means kind.now) (ledger table.now) position result }
 {
     match index_of(position, table.count()) {
         Some(at) => kind.longest(&table.rows()[at]),
@@ -27,7 +27,7 @@ pub(crate) fn slack_of<K: LoadKind, S: Supply>(
     at: usize,
 ) -> i64
     requires { at < length (ledger table.now).tasks }
-    ensures { result ≡ slack (means kind.now) (gives supply.now) (ledger table.now) (at + 1) }
+    ensures { result ≡ slack (K.means kind.now) (S.gives supply.now) (ledger table.now) (at + 1) }
 {
     let rows = table.rows();
     let deadlines = table.deadlines();
@@ -37,7 +37,7 @@ pub(crate) fn slack_of<K: LoadKind, S: Supply>(
 
 /// The slacks of all tasks, by their indices.
 pub(crate) fn slacks<K: LoadKind, S: Supply>(kind: &K, supply: &S, table: &Table) -> [i64; 32]
-    ensures { Slacks (means kind.now) (gives supply.now) (ledger table.now) result }
+    ensures { Slacks (K.means kind.now) (S.gives supply.now) (ledger table.now) result }
 {
     let mut slacks: [i64; 32] = [0; 32];
     for at in 0..table.count() {

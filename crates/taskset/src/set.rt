@@ -19,7 +19,7 @@ impl<K: LoadKind, S: Supply> TaskSet<K, S> {
     pub fn new(kind: K, supply: S) -> Self
         ensures kind { result.kind ≡ kind }
         ensures supply { result.supply ≡ supply }
-        ensures stands { Stands (means kind) (gives supply) [] [] result.table }
+        ensures stands { Stands (K.means kind) (S.gives supply) [] [] result.table }
     {
         let table = Table::new();
         TaskSet {
