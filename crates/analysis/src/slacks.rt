@@ -11,7 +11,9 @@ use supplies::{LAST_INSTANT, Supply};
 
 /// The greatest instant up to the limit at which the row asks for what it asks for at `t`. An unlawful row never asks for anything.
 fn unchanged_until<K: LoadKind>(kind: &K, row: &Row, t: u64, limit: u64) -> u64
-    requires { (1 ≤ t) × ((t ≤ limit) × (limit ≤ last_instant)) }
+    requires low { 1 ≤ t }
+    requires within { t ≤ limit }
+    requires reach { limit ≤ last_instant }
     ensures { Until limit ((K.means kind.now).request row.now) t result }
 {
     let until = kind.until(row, t);
@@ -20,7 +22,9 @@ fn unchanged_until<K: LoadKind>(kind: &K, row: &Row, t: u64, limit: u64) -> u64
 
 /// The end of the stretch from `t` on: the greatest instant up to the limit at which the rows ask for what they ask for at `t`.
 fn stretch_end<K: LoadKind>(kind: &K, rows: &[Row], t: u64, limit: u64) -> u64
-    requires { (1 ≤ t) × ((t ≤ limit) × (limit ≤ last_instant)) }
+    requires low { 1 ≤ t }
+    requires within { t ≤ limit }
+    requires reach { limit ≤ last_instant }
     ensures { Until limit (requests (K.means kind.now) rows.now) t result }
 {
     let mut end = limit;
@@ -53,7 +57,8 @@ fn most_left<K: LoadKind, S: Supply>(
     from: u64,
     to: u64,
 ) -> i128
-    requires { (1 ≤ from) × (from ≤ last_instant) }
+    requires low { 1 ≤ from }
+    requires reach { from ≤ last_instant }
     ensures is { result ≡ largest (left_over (K.means kind.now) (S.gives supply.now) above.now longest) from (to - from) }
     ensures greatest { Largest (left_over (K.means kind.now) (S.gives supply.now) above.now longest) from to result }
 {

@@ -1,5 +1,5 @@
 -- The ledger: what the edits of a set have entered, and nothing that is worked out from it.
-use Rattle.std.specs.Prelude.{ℕ, ◌-◌, List, [], ◌∷◌, ◌++◌, map, take, drop, set, replicate, slice_index, slice_index_or, slice_set}
+use Rattle.std.specs.Prelude.{ℕ, ◌-◌, List, [], ◌∷◌, ◌++◌, map, take, drop, replicate, slice_index, slice_index_or, slice_set}
 use Rattle.ledger.specs.declared.edit.Edit.{Edit}
 use Rattle.ledger.specs.declared.edit.Edit.TheVariants.{Insert, Withdraw, Section}
 use Rattle.ledger.specs.declared.edit.Edit.TheVariants.{Mark as Marked}

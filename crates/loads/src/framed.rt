@@ -37,7 +37,9 @@ impl EntryRule for Framed {
 
 /// The sum of `n` consecutive frames, from number `start` on.
 fn sum_of_frames(row: &Row, start: u64, n: u64) -> u64
-    requires { (framed_formulas.fault row.now ≡ 0) × ((start ≤ most_frames) × (n ≤ most_frames)) }
+    requires lawful { framed_formulas.fault row.now ≡ 0 }
+    requires begins { start ≤ most_frames }
+    requires few { n ≤ most_frames }
     ensures is { result ≡ frames row.now start n }
     ensures small { result ≤ most_frames * largest_entry }
 {
@@ -51,7 +53,8 @@ fn sum_of_frames(row: &Row, start: u64, n: u64) -> u64
 
 /// The largest sum of `n` consecutive frames: whole cycles come to the same from every start, so only the rest is tried.
 fn busiest_run(row: &Row, n: u64) -> u64
-    requires { (framed_formulas.fault row.now ≡ 0) × (n ≤ horizon) }
+    requires lawful { framed_formulas.fault row.now ≡ 0 }
+    requires few { n ≤ horizon }
     ensures { result ≡ busiest row.now n }
 {
     let count = row[1];

@@ -31,9 +31,9 @@ fn without_jitter(row: &Row) -> Row
 }
 
 impl<K: LoadKind> LoadKind for Jittered<K> {
-    ghost means = { λ j. jittered (K.LoadKind.means j.below) };
+    ghost means = { λ j. jittered (K.means j.below) };
 
-    ghost laws = { λ k. jittered_laws (K.LoadKind.means k.below) (K.LoadKind.laws k.below) };
+    ghost laws = { λ k. jittered_laws (K.means k.below) (K.laws k.below) };
 
     fn lawful(&self, row: &Row) -> Result<(), RowFault> {
         let below = without_jitter(row);

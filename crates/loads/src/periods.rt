@@ -15,7 +15,8 @@ pub(crate) fn begun(t: u64, period: u64) -> u64
 
 /// The last instant up to the horizon with as many periods begun as at `t`.
 pub(crate) fn last_before_next(t: u64, period: u64) -> u64
-    requires { (1 ≤ period) × (period ≤ largest_entry) }
+    requires low { 1 ≤ period }
+    requires high { period ≤ largest_entry }
     ensures { result ≡ min (rounded_up (min t horizon) period * period) horizon }
 {
     (begun(t, period) * period).min(HORIZON)

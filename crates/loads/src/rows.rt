@@ -27,7 +27,7 @@ pub(crate) trait EntryRule {
 
 /// Yes, or the lowest-numbered entry that breaks the rule.
 pub(crate) fn judge<R: EntryRule>(rule: &R, row: &Row) -> Result<(), RowFault>
-    ensures { Judged (lowest (R.EntryRule.passes rule.now row.now) 8) result }
+    ensures { Judged (lowest (R.passes rule.now row.now) 8) result }
 {
     for index in 0..8 {
         if !rule.allows(row, index) {

@@ -40,7 +40,8 @@ impl Share {
 
     /// The first instant at which `w` ticks are reached, or an instant past the last one where they never are.
     fn reaching(&self, w: u64) -> u64
-        requires { (1 ≤ w) × (w ≤ last_instant) }
+        requires low { 1 ≤ w }
+        requires high { w ≤ last_instant }
         ensures early { result ≤ last_instant → Reached (share self.now.budget self.now.period) w result }
         ensures late { last_instant < result → share self.now.budget self.now.period last_instant < w }
     {

@@ -15,7 +15,8 @@ use loads::Row;
 impl Table {
     /// Puts a task in at an index; later tasks move down.
     fn put_in(&mut self, at: usize, row: Row, deadline: u64)
-        requires { (self.old.count < 32) × (at ≤ self.old.count) }
+        requires room { self.old.count < 32 }
+        requires within { at ≤ self.old.count }
         ensures ledger { ledger self.new ≡ edited (ledger self.old) (Insert (at + 1) row deadline) }
         ensures ceilings { held self.new ≡ replicate 16 0 }
     {
@@ -43,7 +44,8 @@ impl Table {
 
     /// Sets the length of a section by the indices of its task and resource.
     fn set_length(&mut self, at: usize, j: usize, value: u64)
-        requires { (at < self.old.count) × (j < 16) }
+        requires task { at < self.old.count }
+        requires resource { j < 16 }
         ensures ledger { ledger self.new ≡ edited (ledger self.old) (Section (at + 1) (j + 1) value) }
         ensures ceilings { held self.new ≡ replicate 16 0 }
     {

@@ -37,5 +37,5 @@ returns g c =
     let k = g.K.LoadKind.means c.args.kind.now in
     let s = g.S.Supply.gives c.args.supply.now in
     let left : ℕ → ℤ = left_over k s c.args.above.now c.args.longest in
-    let most = whole_range k (g.met.K.LoadKind.laws c.args.kind.now) s (g.met.S.Supply.laws c.args.supply.now) c.args.above.now c.args.longest c.args.from c.args.to c.loop-end.end _ c.requires.1 (omega arith) c.loop-end.invariant.2 in
+    let most = whole_range k (g.met.K.LoadKind.laws c.args.kind.now) s (g.met.S.Supply.laws c.args.supply.now) c.args.above.now c.args.longest c.args.from c.args.to c.loop-end.end _ c.requires.reach (omega arith) c.loop-end.invariant.2 in
     record { is = largest_unique left c.args.from c.args.to _ most; greatest = most }

@@ -15,7 +15,7 @@ loop-row-preserved g c =
     let i : ℕ = c.loop-row.row-index in
     let P : ℕ → Type 0 = λ e. Until c.args.limit (requests k (take (i + 1) rows)) c.args.t e in
     subst P (sym c.min-end.ensures)
-    (stretch_more k (g.met.K.LoadKind.laws c.args.kind.now) rows i c.args.limit c.args.t c.loop-row.end c.unchanged_until.result c.loop-row-test.true c.requires.1.0 c.loop-row.invariant c.unchanged_until.ensures)
+    (stretch_more k (g.met.K.LoadKind.laws c.args.kind.now) rows i c.args.limit c.args.t c.loop-row.end c.unchanged_until.result c.loop-row-test.true c.requires.within c.loop-row.invariant c.unchanged_until.ensures)
 
 pub returns : goal.returns
 returns g c =

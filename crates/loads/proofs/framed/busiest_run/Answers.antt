@@ -5,16 +5,16 @@ use Rattle.loads.specs.Frames.{frames_cycles, largest_of_more}
 use Rattle.loads.proofs.framed.busiest_run.Goals as goal
 
 pub nonzero_div-cycles : goal.nonzero_div-cycles
-nonzero_div-cycles c = let low = count_low c.args.row.now c.requires.0 in search rules
+nonzero_div-cycles c = let low = count_low c.args.row.now c.requires.lawful in search rules
 
 pub sum_of_frames-requires : goal.sum_of_frames-requires
-sum_of_frames-requires c = let high = count_high c.args.row.now c.requires.0 in (c.requires.0, (omega arith, omega arith))
+sum_of_frames-requires c = let high = count_high c.args.row.now c.requires.lawful in record { lawful = c.requires.lawful; begins = omega arith; few = omega arith }
 
 pub sum_of_frames-requires-in-loop-start : goal.sum_of_frames-requires-in-loop-start
 sum_of_frames-requires-in-loop-start c =
-    let high = count_high c.args.row.now c.requires.0 in
-    let rest = place c.args.row.now c.requires.0 c.args.n in
-    (c.requires.0, (omega arith, omega arith))
+    let high = count_high c.args.row.now c.requires.lawful in
+    let rest = place c.args.row.now c.requires.lawful c.args.n in
+    record { lawful = c.requires.lawful; begins = omega arith; few = omega arith }
 
 pub loop-start-preserved : goal.loop-start-preserved
 loop-start-preserved c =

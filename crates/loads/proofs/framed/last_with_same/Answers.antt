@@ -5,7 +5,7 @@ use Rattle.loads.specs.FramedLaws.{framed_periodic}
 use Rattle.loads.proofs.framed.last_with_same.Goals as goal
 
 pub last_before_next-requires : goal.last_before_next-requires
-last_before_next-requires c = let p = framed_periodic c.args.row.now c.requires in (p.period_low, p.period_high)
+last_before_next-requires c = let p = framed_periodic c.args.row.now c.requires in record { low = p.period_low; high = p.period_high }
 
 pub returns : goal.returns
 returns c =

@@ -4,17 +4,17 @@ use Rattle.loads.specs.Frames.{frames_more}
 use Rattle.loads.proofs.framed.sum_of_frames.Goals as goal
 
 pub nonzero_rem-sum : goal.nonzero_rem-sum
-nonzero_rem-sum c = let low = count_low c.args.row.now c.requires.0 in search rules
+nonzero_rem-sum c = let low = count_low c.args.row.now c.requires.lawful in search rules
 
 pub bounds-row-start : goal.bounds-row-start
 bounds-row-start c =
-    omega (arith, place c.args.row.now c.requires.0 (c.args.start + c.loop-j.j), count_high c.args.row.now c.requires.0)
+    omega (arith, place c.args.row.now c.requires.lawful (c.args.start + c.loop-j.j), count_high c.args.row.now c.requires.lawful)
 
 pub overflow_add-sum-in-loop-j-2 : goal.overflow_add-sum-in-loop-j-2
-overflow_add-sum-in-loop-j-2 c = let high = frame_high c.args.row.now c.requires.0 (c.args.start + c.loop-j.j) in search rules
+overflow_add-sum-in-loop-j-2 c = let high = frame_high c.args.row.now c.requires.lawful (c.args.start + c.loop-j.j) in search rules
 
 pub loop-j-preserved : goal.loop-j-preserved
 loop-j-preserved c =
-    let high = frame_high c.args.row.now c.requires.0 (c.args.start + c.loop-j.j) in
+    let high = frame_high c.args.row.now c.requires.lawful (c.args.start + c.loop-j.j) in
     let more = frames_more c.args.row.now c.args.start c.loop-j.j in
     (omega arith, omega arith)

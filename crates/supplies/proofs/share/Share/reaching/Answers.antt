@@ -8,6 +8,6 @@ returns c =
     let s = c.args.self.now in
     let w = c.args.w in
     record {
-      early = λ h. reached_at _ w _ h (omega (arith, reached s.budget s.period s.some s.part w c.requires.0)) (before s.budget s.period s.some s.part w c.requires.0);
-      late = before s.budget s.period s.some s.part w c.requires.0 1000000;
+      early = λ h. reached_at _ w _ h (omega (arith, reached s.budget s.period s.some s.part w c.requires.low)) (before s.budget s.period s.some s.part w c.requires.low);
+      late = before s.budget s.period s.some s.part w c.requires.low 1000000;
     }
