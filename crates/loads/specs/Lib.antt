@@ -4,10 +4,4 @@ pub mod Plain
 pub mod Framed
 pub mod Jittered
 pub mod Codes
-pub mod FramedLaws
-pub mod Frames
-pub mod Guarded
-pub mod Lowest
-pub mod Periodic
-pub mod JitteredLaws
-pub mod PlainLaws
+pub mod LawProofs

@@ -3,7 +3,7 @@ ghost use Rattle.std.specs.Prelude.{◌≡◌, ◌*◌, ◌≤◌};
 ghost use Rattle.loads.specs.Codes.{framed_code};
 ghost use Rattle.loads.specs.Framed.{busiest, framed, framed_entry, framed_formulas, frames, most_frames};
 ghost use Rattle.loads.specs.Kind.{Until, horizon, largest_entry};
-ghost use Rattle.loads.specs.FramedLaws.{framed_laws};
+ghost use Rattle.loads.specs.LawProofs.FramedLaws.{framed_laws};
 ghost use Rattle.std.proofs.Common.{rules};
 
 use super::kind::{ListedKind, LoadKind};

@@ -2,7 +2,7 @@
 ghost use Rattle.std.specs.Prelude.{◌≡◌};
 ghost use Rattle.loads.specs.Codes.{jittered_code};
 ghost use Rattle.loads.specs.Jittered.{jittered, row_below};
-ghost use Rattle.loads.specs.JitteredLaws.{jittered_laws};
+ghost use Rattle.loads.specs.LawProofs.JitteredLaws.{jittered_laws};
 ghost use Rattle.std.proofs.Common.{rules};
 
 use super::kind::{HORIZON, ListedKind, LoadKind};

@@ -3,7 +3,7 @@ ghost use Rattle.std.specs.Prelude.{◌≡◌};
 ghost use Rattle.loads.specs.Codes.{plain_code};
 ghost use Rattle.loads.specs.Kind.{Until, horizon};
 ghost use Rattle.loads.specs.Plain.{plain, plain_entry, plain_formulas};
-ghost use Rattle.loads.specs.PlainLaws.{plain_laws};
+ghost use Rattle.loads.specs.LawProofs.PlainLaws.{plain_laws};
 ghost use Rattle.std.proofs.Common.{rules};
 
 use super::kind::{ListedKind, LoadKind};

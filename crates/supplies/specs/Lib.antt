@@ -2,5 +2,4 @@ pub mod Supplied
 pub mod Shares
 pub mod Refusals
 pub mod Codes
-pub mod Formulas
-pub mod Rounds
+pub mod LawProofs

@@ -3,8 +3,8 @@ ghost use Rattle.std.specs.Prelude.{◌≡◌, ◌<◌, ◌≤◌, MatchResult};
 ghost use Rattle.supplies.specs.Codes.{share_code};
 ghost use Rattle.supplies.specs.Shares.{LawfulShare, longest_period, share};
 ghost use Rattle.supplies.specs.Supplied.{Reached, last_instant};
-ghost use Rattle.supplies.specs.Formulas.{formula_laws};
-ghost use Rattle.supplies.specs.Rounds.{share_start, share_steady};
+ghost use Rattle.supplies.specs.LawProofs.Formulas.{formula_laws};
+ghost use Rattle.supplies.specs.LawProofs.Rounds.{share_start, share_steady};
 ghost use Rattle.std.proofs.Common.{rules, arith};
 
 use super::fault::SupplyFault;

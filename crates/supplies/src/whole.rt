@@ -3,7 +3,7 @@ ghost use Rattle.supplies.specs.Codes.{no_numbers, whole_code};
 ghost use Rattle.supplies.specs.Supplied.{whole};
 ghost use Rattle.std.specs.Prelude.{refl};
 ghost use Rattle.std.proofs.Common.{arith, rules};
-ghost use Rattle.supplies.specs.Formulas.{formula_laws};
+ghost use Rattle.supplies.specs.LawProofs.Formulas.{formula_laws};
 
 use super::supply::{LAST_INSTANT, ListedSupply, Supply};
 

@@ -1,7 +1,7 @@
 use Rattle.std.proofs.Common.{◌≡◌, ℕ, ◌*◌, ◌/◌, ap, arith, rules}
 use Rattle.loads.specs.Framed.{frame_count, frames}
-use Rattle.loads.specs.FramedLaws.{count_low, count_high, place}
-use Rattle.loads.specs.Frames.{frames_cycles, largest_of_more}
+use Rattle.loads.specs.LawProofs.FramedLaws.{count_low, count_high, place}
+use Rattle.loads.specs.LawProofs.Frames.{frames_cycles, largest_of_more}
 use Rattle.loads.proofs.framed.busiest_run.Goals as goal
 
 pub nonzero_div-cycles : goal.nonzero_div-cycles

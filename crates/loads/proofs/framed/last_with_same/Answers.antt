@@ -1,7 +1,7 @@
 use Rattle.std.proofs.Common.{refl}
 use Rattle.loads.specs.Framed.{framed_formulas}
-use Rattle.loads.specs.Periodic.{periodic_until}
-use Rattle.loads.specs.FramedLaws.{framed_periodic}
+use Rattle.loads.specs.LawProofs.Periodic.{periodic_until}
+use Rattle.loads.specs.LawProofs.FramedLaws.{framed_periodic}
 use Rattle.loads.proofs.framed.last_with_same.Goals as goal
 
 pub last_before_next-requires : goal.last_before_next-requires

@@ -1,6 +1,6 @@
 use Rattle.std.proofs.Common.{◌+◌, arith, rules}
-use Rattle.loads.specs.FramedLaws.{count_low, count_high, place, frame_high}
-use Rattle.loads.specs.Frames.{frames_more}
+use Rattle.loads.specs.LawProofs.FramedLaws.{count_low, count_high, place, frame_high}
+use Rattle.loads.specs.LawProofs.Frames.{frames_more}
 use Rattle.loads.proofs.framed.sum_of_frames.Goals as goal
 
 pub nonzero_rem-sum : goal.nonzero_rem-sum

@@ -1,7 +1,7 @@
 use Rattle.std.proofs.Common.{refl}
 use Rattle.loads.specs.Plain.{plain_formulas}
-use Rattle.loads.specs.Periodic.{periodic_until}
-use Rattle.loads.specs.PlainLaws.{plain_periodic}
+use Rattle.loads.specs.LawProofs.Periodic.{periodic_until}
+use Rattle.loads.specs.LawProofs.PlainLaws.{plain_periodic}
 use Rattle.loads.proofs.plain.last_with_same.Goals as goal
 
 pub last_before_next-requires : goal.last_before_next-requires

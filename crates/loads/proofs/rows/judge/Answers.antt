@@ -1,5 +1,5 @@
 use Rattle.std.proofs.Common.{ℕ, sym, ◌∙◌, add-one, arith, below_more}
-use Rattle.loads.specs.Lowest.{lowest_all, lowest_first}
+use Rattle.loads.specs.LawProofs.Lowest.{lowest_all, lowest_first}
 use Rattle.loads.proofs.rows.judge.Goals as goal
 
 pub returns-then-not-allows : goal.returns-then-not-allows

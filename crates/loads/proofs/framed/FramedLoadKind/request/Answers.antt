@@ -1,4 +1,4 @@
-use Rattle.loads.specs.FramedLaws.{framed_periodic}
+use Rattle.loads.specs.LawProofs.FramedLaws.{framed_periodic}
 use Rattle.loads.proofs.framed.FramedLoadKind.request.Goals as goal
 
 pub begun-requires : goal.begun-requires

@@ -1,5 +1,5 @@
 use Rattle.std.proofs.Common.{rules}
-use Rattle.loads.specs.JitteredLaws.{jitter_under}
+use Rattle.loads.specs.LawProofs.JitteredLaws.{jitter_under}
 use Rattle.loads.proofs.jittered.JitteredLoadKind.request.Goals as goal
 
 pub overflow_add-min : goal.overflow_add-min

@@ -1,5 +1,5 @@
 use Rattle.std.proofs.Common.{arith, rules}
-use Rattle.loads.specs.JitteredLaws.{jitter_under, jitter_before, jittered_until_some, jittered_until_zero}
+use Rattle.loads.specs.LawProofs.JitteredLaws.{jitter_under, jitter_before, jittered_until_some, jittered_until_zero}
 use Rattle.loads.proofs.jittered.JitteredLoadKind.until.Goals as goal
 
 pub overflow_add-min : goal.overflow_add-min

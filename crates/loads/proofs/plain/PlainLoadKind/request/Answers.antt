@@ -1,6 +1,6 @@
 use Rattle.std.proofs.Common.{rules}
-use Rattle.loads.specs.Periodic.{periods_few, work_small}
-use Rattle.loads.specs.PlainLaws.{plain_periodic}
+use Rattle.loads.specs.LawProofs.Periodic.{periods_few, work_small}
+use Rattle.loads.specs.LawProofs.PlainLaws.{plain_periodic}
 use Rattle.loads.proofs.plain.PlainLoadKind.request.Goals as goal
 
 pub begun-requires : goal.begun-requires

@@ -1,6 +1,6 @@
 use Rattle.std.proofs.Common.{arith}
-use Rattle.supplies.specs.Formulas.{reached_at}
-use Rattle.supplies.specs.Rounds.{reached, before}
+use Rattle.supplies.specs.LawProofs.Formulas.{reached_at}
+use Rattle.supplies.specs.LawProofs.Rounds.{reached, before}
 use Rattle.supplies.proofs.share.Share.reaching.Goals as goal
 
 pub returns : goal.returns

@@ -1,7 +1,7 @@
 use Rattle.std.proofs.Common.{ℕ, ◌+◌, min, sym, ◌∙◌, arith}
 use Rattle.std.proofs.lemmas.Nat.{mul-le}
 use Rattle.supplies.specs.Supplied.{last_instant}
-use Rattle.supplies.specs.Rounds.{parts, share_whole}
+use Rattle.supplies.specs.LawProofs.Rounds.{parts, share_whole}
 use Rattle.supplies.proofs.share.ShareSupply.supplied.Goals as goal
 
 pub returns-then-self : goal.returns-then-self

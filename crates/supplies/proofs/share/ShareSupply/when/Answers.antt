@@ -1,5 +1,5 @@
 use Rattle.std.proofs.Common.{◌≤◌, arith}
-use Rattle.supplies.specs.Rounds.{at_least, before}
+use Rattle.supplies.specs.LawProofs.Rounds.{at_least, before}
 use Rattle.supplies.proofs.share.ShareSupply.when.Goals as goal
 
 pub returns-then-w-gt-LAST_INSTANT : goal.returns-then-w-gt-LAST_INSTANT

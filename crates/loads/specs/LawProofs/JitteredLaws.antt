@@ -5,7 +5,7 @@ use Rattle.std.proofs.lemmas.Bool.{cases_eq, cases_lt}
 use Rattle.std.proofs.lemmas.Bool.Decides.{nat_tests}
 use Rattle.loads.specs.Kind.{Kind, Load, Laws, Until, horizon, largest_entry}
 use Rattle.loads.specs.Jittered.{jittered, jittered_formulas, jittered_fault, jitter, row_below}
-use Rattle.loads.specs.Guarded.{Formulas, guarded_laws, guarded_until}
+use Rattle.loads.specs.LawProofs.Guarded.{Formulas, guarded_laws, guarded_until}
 
 module _ (k : Kind) (laws : Laws k) where
   pub entry_named : (row : List ℕ) → jittered_fault k row ≤ 8

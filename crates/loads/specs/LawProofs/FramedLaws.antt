@@ -4,10 +4,10 @@ use Rattle.std.proofs.Common.{sym, arith, mod-lt}
 use Rattle.std.proofs.lemmas.Bool.Decides.{nat_tests}
 use Rattle.loads.specs.Kind.{Laws, largest_entry}
 use Rattle.loads.specs.Framed.{framed, framed_formulas, framed_entry, frame, frame_count, frames, largest_of, busiest}
-use Rattle.loads.specs.Frames.{frames_one, frames_high, frames_lt, largest_of_same, largest_of_high, largest_of_lt}
-use Rattle.loads.specs.Guarded.{Formulas, guarded_laws}
-use Rattle.loads.specs.Lowest.{lowest_passes, lowest_le}
-use Rattle.loads.specs.Periodic.{Periodic, periodic_formulas}
+use Rattle.loads.specs.LawProofs.Frames.{frames_one, frames_high, frames_lt, largest_of_same, largest_of_high, largest_of_lt}
+use Rattle.loads.specs.LawProofs.Guarded.{Formulas, guarded_laws}
+use Rattle.loads.specs.LawProofs.Lowest.{lowest_passes, lowest_le}
+use Rattle.loads.specs.LawProofs.Periodic.{Periodic, periodic_formulas}
 
 module _ (row : List ℕ) (lawful : framed_formulas.fault row ≡ 0) where
   pub count_low : 1 ≤ frame_count row

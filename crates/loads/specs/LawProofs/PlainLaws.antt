@@ -5,9 +5,9 @@ use Rattle.std.proofs.lemmas.Nat.{mul-le}
 use Rattle.std.proofs.lemmas.Bool.Decides.{nat_tests}
 use Rattle.loads.specs.Kind.{Laws, largest_entry}
 use Rattle.loads.specs.Plain.{plain, plain_formulas, plain_entry}
-use Rattle.loads.specs.Guarded.{Formulas, guarded_laws}
-use Rattle.loads.specs.Lowest.{lowest_passes, lowest_le}
-use Rattle.loads.specs.Periodic.{Periodic, periodic_formulas}
+use Rattle.loads.specs.LawProofs.Guarded.{Formulas, guarded_laws}
+use Rattle.loads.specs.LawProofs.Lowest.{lowest_passes, lowest_le}
+use Rattle.loads.specs.LawProofs.Periodic.{Periodic, periodic_formulas}
 
 module _ (row : List ℕ) (lawful : plain_formulas.fault row ≡ 0) where
   low : (i : ℕ) → i < 2 → 1 ≤ slice_index row i

@@ -5,7 +5,7 @@ use Rattle.std.proofs.lemmas.Bool.{cases_lt}
 use Rattle.numbers.specs.Rounding.{rounded_up}
 use Rattle.numbers.proofs.Roundings.{rounded_up_mono, rounded_up_zero, rounded_up_one, rounded_up_self, last_of_period, next_period}
 use Rattle.loads.specs.Kind.{Kind, Until, guarded, horizon, largest_entry, most_work}
-use Rattle.loads.specs.Guarded.{Formulas, guarded_until}
+use Rattle.loads.specs.LawProofs.Guarded.{Formulas, guarded_until}
 
 -- as many periods as begin up to the horizon
 pub periods_few : (n t d : ℕ) → 1 ≤ d → n ≡ rounded_up (min t horizon) d → n ≤ horizon

@@ -7,7 +7,7 @@ use Rattle.std.proofs.lemmas.Bool.Decides.{nat_tests}
 use Rattle.numbers.specs.Rounding.{rounded_up}
 use Rattle.numbers.proofs.Roundings.{one_more, rounded_up_le, lt_rounded_up, covered}
 use Rattle.supplies.specs.Shares.{round, given_by}
-use Rattle.supplies.specs.Formulas.{Steady}
+use Rattle.supplies.specs.LawProofs.Formulas.{Steady}
 
 two_more : (j p : ℕ) → (j + 1 + 1) * p ≡ j * p + 2 * p
 two_more j p = omega (arith, one_more (j + 1) p, one_more j p)
