@@ -5,8 +5,8 @@ usage: python3 tools/snake_names.py [--dry]     at the top of the repository
 
 Every name with a dash that a file of specs/ or proofs/ declares is respelled, wherever it stands in crates/: `work-of` becomes
 `work_of`, `All-yes` becomes `AllYes`. Names that Rattle makes or its library has keep their dashes: an answer to a goal, whose type
-begins with `goal.`, is not a declaration of ours. The script stops before it writes anything if two names would become one, or if a
-new name stands in a file already. Run once, after the move to a newer Rattle; kept as a record of which name became which.
+begins with `goal.`, is not a declaration of ours. The script stops before it writes anything if two names would become one, and lists
+each new name that stands in a file already. Run once, after the move to a newer Rattle; kept as a record of which name became which.
 """
 
 import os

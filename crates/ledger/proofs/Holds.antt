@@ -79,8 +79,8 @@ module _ (k : Kind) (s : ℕ → ℕ) (l : Ledger) (ok : Sound k l) (c : List �
     held_falls : (d : List ℕ) (p j : ℕ) → 1 ≤ p → p ≤ length l.tasks → 1 ≤ j → j ≤ 16 → ceiling d j ≤ ceiling c j → 0 < section (task l p) j → held_for k s l d j (task l p) ≤ held_for k s l c j (task l p)
     held_falls d p j low high jl jh below used =
         let soon = ceiling_soon j jl jh (user_ceiling l c fits j p jl jh low used).0 in
-        let by-c = held_serving p j low high jl jh used in
-        by (held_for k s l c j (task l p)) by-c.from (le_trans by-c.to soon) by-c.through
+        let by_c = held_serving p j low high jl jh used in
+        by (held_for k s l c j (task l p)) by_c.from (le_trans by_c.to soon) by_c.through
       where
         by : (t : ℕ) → 1 ≤ t → t ≤ last_instant → hold_work k s l c j (task l p) t ≤ s t → held_for k s l d j (task l p) ≤ t
         by t tl th enough =

@@ -34,6 +34,7 @@ pub trait LoadKind {
     fn until(&self, row: &Row, t: u64) -> u64
         ensures { Lasts (means self.now) row.now t result };
 
+    // what every kind keeps: the laws of requests, longest jobs, separations and entries
     ghost laws: { (k : Self) → Laws (means k) };
 }
 
@@ -46,5 +47,6 @@ pub trait ListedKind: LoadKind {
     fn code(&self) -> u64
         ensures { result ≡ coded self.now };
 
+    // the code stands in eight columns
     ghost codes: { (k : Self) → coded k ≤ largest_listed };
 }

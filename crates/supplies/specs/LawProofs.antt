@@ -2,3 +2,5 @@
 -- implementation of the trait cites its law's proof.
 pub mod Formulas
 pub mod Rounds
+pub mod WholeLaws
+pub mod ShareLaws

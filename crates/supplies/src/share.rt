@@ -3,9 +3,8 @@ ghost use Rattle.std.specs.Prelude.{◌≡◌, ◌<◌, ◌≤◌, MatchResult};
 ghost use Rattle.supplies.specs.Codes.{share_code};
 ghost use Rattle.supplies.specs.Shares.{LawfulShare, longest_period, share};
 ghost use Rattle.supplies.specs.Supplied.{Reached, last_instant};
-ghost use Rattle.supplies.specs.LawProofs.Formulas.{formula_laws};
-ghost use Rattle.supplies.specs.LawProofs.Rounds.{share_start, share_steady};
-ghost use Rattle.std.proofs.Common.{rules, arith};
+ghost use Rattle.supplies.specs.LawProofs.ShareLaws.{share_laws, share_listed};
+ghost use Rattle.std.proofs.Common.{rules};
 
 use super::fault::SupplyFault;
 use super::supply::{LAST_INSTANT, ListedSupply, Supply};
@@ -54,7 +53,7 @@ impl Share {
 impl Supply for Share {
     ghost gives = { λ s. share s.budget s.period };
 
-    ghost laws = { λ s. formula_laws _ (share_start s.budget s.period s.some s.part) (share_steady s.budget s.period s.some s.part) };
+    ghost laws = { λ s. share_laws s.budget s.period s.some s.part };
 
     fn supplied(&self, t: u64) -> u64 {
         let t = t.min(LAST_INSTANT);
@@ -88,9 +87,9 @@ impl ListedSupply for Share {
 
     ghost numbered = { λ s. (s.budget, s.period) };
 
-    ghost codes = { first_of (Prim.search rules, Prim.grind (arith, Self.row.coded.inj)) };
+    ghost codes = { Prim.search rules };
 
-    ghost listed = { first_of (Prim.search rules, Prim.grind (arith, Self.row.coded.inj)) };
+    ghost listed = { λ s. share_listed s.budget s.period s.part s.brief };
 
     fn code(&self) -> u64 {
         CODE

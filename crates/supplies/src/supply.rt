@@ -19,6 +19,7 @@ pub trait Supply {
     fn when(&self, w: u64) -> Option<u64>
         ensures { When (gives self.now) w result };
 
+    // what every supply keeps: nothing at first, and 0 or 1 more with each tick
     ghost laws: { (s : Self) → Laws (gives s) };
 }
 
@@ -38,7 +39,9 @@ pub trait ListedSupply: Supply {
     fn numbers(&self) -> (u64, u64)
         ensures { result ≡ numbered self.now };
 
+    // the code stands in eight columns
     ghost codes: { (s : Self) → coded s ≤ largest_listed };
 
+    // and so do both numbers
     ghost listed: { (s : Self) → ((numbered s).0 ≤ largest_listed) × ((numbered s).1 ≤ largest_listed) };
 }

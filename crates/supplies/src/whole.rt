@@ -1,9 +1,8 @@
 //! The whole processor.
 ghost use Rattle.supplies.specs.Codes.{no_numbers, whole_code};
 ghost use Rattle.supplies.specs.Supplied.{whole};
-ghost use Rattle.std.specs.Prelude.{refl};
-ghost use Rattle.std.proofs.Common.{arith, rules};
-ghost use Rattle.supplies.specs.LawProofs.Formulas.{formula_laws};
+ghost use Rattle.std.proofs.Common.{rules};
+ghost use Rattle.supplies.specs.LawProofs.WholeLaws.{whole_laws};
 
 use super::supply::{LAST_INSTANT, ListedSupply, Supply};
 
@@ -17,7 +16,7 @@ pub struct Whole;
 impl Supply for Whole {
     ghost gives = { λ _. whole };
 
-    ghost laws = { λ s. formula_laws (λ t. t) refl (λ t. record { keeps = omega arith; adds = omega arith }) };
+    ghost laws = { λ _. whole_laws };
 
     fn supplied(&self, t: u64) -> u64 {
         t.min(LAST_INSTANT)

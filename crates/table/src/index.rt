@@ -1,10 +1,10 @@
 //! Positions and resources, which count from 1, as indices, which count from 0.
-ghost use Rattle.std.specs.Prelude.{◌≤◌, Decides};
+ghost use Rattle.std.specs.Prelude.{◌≤◌, ◌↔◌, IsTrue};
 ghost use Rattle.table.specs.Indices.{IndexOf};
 
 /// Whether a number is from 1 to `last`.
 pub fn from_one_to(number: u64, last: u64) -> bool
-    ensures { Decides result ((1 ≤ number) × (number ≤ last)) }
+    ensures { IsTrue result ↔ ((1 ≤ number) × (number ≤ last)) }
 {
     1 <= number && number <= last
 }

@@ -1,5 +1,5 @@
 //! Natural ceilings and blocking, from the sections of a table.
-ghost use Rattle.std.specs.Prelude.{◌≡◌, ◌+◌, ◌&&◌, leb, if◌then◌else◌, nat_le, slice_index_or};
+ghost use Rattle.std.specs.Prelude.{◌≡◌, ◌+◌, ◌&&◌, if◌then◌else◌, nat_le, slice_index_or};
 ghost use Rattle.ledger.specs.Ceilings.{natural, natural_table, longest_below, obstacle, blocking};
 ghost use Rattle.ledger.specs.Ledger.{no_task};
 ghost use Rattle.table.specs.Tables.{ledger, held, length_at};
@@ -50,7 +50,7 @@ impl Table {
 
     /// The section of a task on a resource, by their indices, where it can block a position under this ceiling; else 0.
     fn blocking_section(&self, at: usize, j: usize, ceiling: u64, position: usize) -> u64
-        ensures { result ≡ (if leb 1 ceiling && nat_le ceiling position then length_at (ledger self.now).tasks at j else 0) }
+        ensures { result ≡ (if nat_le 1 ceiling && nat_le ceiling position then length_at (ledger self.now).tasks at j else 0) }
     {
         if blocks(ceiling, position) {
             self.length(at, j)

@@ -1,5 +1,5 @@
 //! Ceilings settled anew: each resource by itself, as low as the slack of the tasks allows.
-ghost use Rattle.std.specs.Prelude.{◌≡◌, ◌+◌, ◌<◌, ◌≤◌, length, pos, Decides, int_le, slice_index_or};
+ghost use Rattle.std.specs.Prelude.{◌≡◌, ◌+◌, ◌<◌, ◌≤◌, ◌↔◌, length, pos, IsTrue, int_le, slice_index_or};
 ghost use Rattle.ledger.specs.Ceilings.{natural};
 ghost use Rattle.ledger.specs.Settled.{slack_at, lower, settled, bears, lowest_table, NaturallyBorne};
 ghost use Rattle.table.specs.Tables.{ledger, held};
@@ -61,7 +61,7 @@ impl Table {
 
     /// Whether every position can bear its blocking under the natural ceilings, with these slacks of the tasks by their indices.
     pub fn bearable(&self, slacks: &[i64; 32]) -> bool
-        ensures { Decides result (NaturallyBorne (slack_at slacks.now) (ledger self.now)) }
+        ensures { IsTrue result ↔ NaturallyBorne (slack_at slacks.now) (ledger self.now) }
     {
         let ceilings = self.natural_ceilings();
         for at in 0..self.count() {

@@ -19,7 +19,7 @@ use Rattle.ledger.proofs.Kept.{insert_sound, section_sound}
 use Rattle.table.specs.declared.table.Table.{Table}
 use Rattle.table.specs.Tables.{ledger, held}
 use Rattle.taskset.specs.Reckoning.{Settled, TakenOver}
-use Rattle.taskset.specs.Sets.{Untouched, StepsIfSound, Goes_on}
+use Rattle.taskset.specs.Sets.{Untouched, StepsIfSound, GoesOn}
 
 -- a refusal that is passed on
 pub passed_on : (r : Answer) (f : SetFault) → IsErrAnd r (λ g. g ≡ f) → r ≡ Err f
@@ -29,7 +29,7 @@ passed_on (Err g) f h = ap Err h
 module _ (k : Kind) (s : ℕ → ℕ) where
   -- an edit as a step of the ledger and as a step of any history
   abbrev pub Turn : Edit → Answer → Table → Table → Type 0
-  Turn e a t u = StepsIfSound k s e a t u × Goes_on k s e a t u
+  Turn e a t u = StepsIfSound k s e a t u × GoesOn k s e a t u
 
   pub refused : (e : Edit) (f : SetFault) (t : Table) → (Sound k (ledger t) → FirstNo (questions k s (ledger t) e) f) → Turn e (Err f) t t
   refused e f t no' = (λ ok. (no' ok, refl), λ es rs st. after_refused e f st (no' st.sound))

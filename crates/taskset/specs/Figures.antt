@@ -92,8 +92,8 @@ module _ {K S : Type 0} (means : K → Kind) (gives : S → ℕ → ℕ) (set : 
   covered_by m base limit = or_0 (first_covered its_kind its_supply (take m (rows its_ledger)) base limit)
 
   -- the first instant of a position with a blocking
-  abbrev pub first_of : ℕ → ℕ → ℕ
-  first_of i b = first_with its_kind its_supply its_ledger i b
+  abbrev pub first_at : ℕ → ℕ → ℕ
+  first_at i b = first_with its_kind its_supply its_ledger i b
 
   -- how long a task may hold a resource
   abbrev pub held_by : ℕ → Task → ℕ

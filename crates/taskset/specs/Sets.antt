@@ -23,8 +23,8 @@ module _ (k : Kind) (s : ℕ → ℕ) where
   StepsIfSound e a before after = Sound k (ledger before) → Step k s (ledger before) e a (ledger after)
 
   -- an edit, so answered, takes the table that any history has left to the one that this history and the edit leave
-  abbrev pub Goes_on : Edit → Answer → Table → Table → Type 0
-  Goes_on e a before after = (es : List Edit) (rs : List Answer) → Stands es rs before → Stands (es ++ e ∷ []) (rs ++ a ∷ []) after
+  abbrev pub GoesOn : Edit → Answer → Table → Table → Type 0
+  GoesOn e a before after = (es : List Edit) (rs : List Answer) → Stands es rs before → Stands (es ++ e ∷ []) (rs ++ a ∷ []) after
 
 -- what an edit, so answered, makes of a set whose kind and supply have these meanings: it goes one step of the ledger and of any history
 pub record Edited {K S : Type 0} (means : K → Kind) (gives : S → ℕ → ℕ) (e : Edit) (a : Answer) (before after : TaskSet K S) : Type 0 where
@@ -32,7 +32,7 @@ pub record Edited {K S : Type 0} (means : K → Kind) (gives : S → ℕ → ℕ
   pub supply : after.supply ≡ before.supply
   pub untouched : Untouched a before.table after.table
   pub steps : StepsIfSound (means before.kind) (gives before.supply) e a before.table after.table
-  pub goes_on : Goes_on (means before.kind) (gives before.supply) e a before.table after.table
+  pub goes_on : GoesOn (means before.kind) (gives before.supply) e a before.table after.table
 
 -- a set that has been made and edited, with all answers
 pub record ReplayedSet {K S : Type 0} (means : K → Kind) (gives : S → ℕ → ℕ) (kind : K) (supply : S) (es : List Edit) (set : TaskSet K S) (before after : List Answer) : Type 0 where

@@ -2,7 +2,7 @@
 ghost use Rattle.std.specs.Prelude.{◌≡◌, ◌+◌, ◌<◌, ◌≤◌, length, slice_index_or};
 ghost use Rattle.ledger.specs.Ledger.{no_task};
 ghost use Rattle.table.specs.Tables.{ledger};
-ghost use Rattle.taskset.specs.Figures.{TaskAnswer, ResourceAnswer, covered_by, first_of, held_by, hold_of};
+ghost use Rattle.taskset.specs.Figures.{TaskAnswer, ResourceAnswer, covered_by, first_at, held_by, hold_of};
 
 use crate::reckoning::slack_of;
 use crate::set::TaskSet;
@@ -36,7 +36,7 @@ impl<K: LoadKind, S: Supply> TaskSet<K, S> {
     /// The first instant of the task with an index, with a blocking; 0 where there is none.
     fn first_of(&self, at: usize, blocking: u64) -> u64
         requires { at < length (ledger self.now.table).tasks }
-        ensures { result ≡ first_of K.means S.gives self.now (at + 1) blocking }
+        ensures { result ≡ first_at K.means S.gives self.now (at + 1) blocking }
     {
         let longest = self.kind.longest(&self.table.rows()[at]);
         let deadline = self.table.deadlines()[at];
