@@ -3,3 +3,4 @@ mod Reckoned
 mod Steps
 mod Replays
 mod Figured
+mod Left

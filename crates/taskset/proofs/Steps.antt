@@ -1,5 +1,5 @@
 -- Each way in which an edit ends, as a step of any history.
-use Rattle.std.proofs.Common.{◌≡◌, ℕ, ◌≤◌, List, [], ◌∷◌, ◌++◌, IsErrAnd, Ok, Err, sym, refl, ap, ◌∙◌, subst, inl, inr, arith}
+use Rattle.std.proofs.Common.{◌≡◌, ℕ, ◌≤◌, List, [], ◌∷◌, ◌++◌, IsErrAnd, Ok, Err, Result, sym, refl, ap, ◌∙◌, subst, inl, inr, arith}
 use Rattle.loads.specs.declared.rows.RowFault.{RowFault}
 use Rattle.loads.specs.Kind.{Kind, Laws}
 use Rattle.loads.specs.Rows.{Judged}
@@ -7,7 +7,7 @@ use Rattle.ledger.specs.declared.edit.Edit.{Edit}
 use Rattle.ledger.specs.declared.edit.Edit.TheVariants.{Insert, Section}
 use Rattle.ledger.specs.declared.fault.SetFault.{SetFault}
 use Rattle.ledger.specs.declared.fault.SetFault.TheVariants.{Row, Unserved}
-use Rattle.ledger.specs.History.{Answer, After, Entered}
+use Rattle.ledger.specs.History.{Answer, Step, After, Entered}
 use Rattle.ledger.specs.Instants.{job, slack, Servable}
 use Rattle.ledger.specs.Ledger.{Ledger, edited}
 use Rattle.ledger.specs.Questions.{AllYes, FirstNo, places, questions}
@@ -18,18 +18,27 @@ use Rattle.ledger.proofs.Histories.{after_refused, after_taken}
 use Rattle.ledger.proofs.Kept.{insert_sound, section_sound}
 use Rattle.table.specs.declared.table.Table.{Table}
 use Rattle.table.specs.Tables.{ledger, held}
-use Rattle.taskset.specs.Reckoning.{Settled, TakenOver}
-use Rattle.taskset.specs.Sets.{Untouched, StepsIfSound, GoesOn}
+use Rattle.taskset.specs.Reckoning.{Settled, Served}
+use Rattle.taskset.specs.Sets.{Untouched, GoesOn}
 
 -- a refusal that is passed on
 pub passed_on : (r : Answer) (f : SetFault) → IsErrAnd r (λ g. g ≡ f) → r ≡ Err f
 passed_on (Ok _) f h = absurd h
 passed_on (Err g) f h = ap Err h
 
+-- what an edit is answered after its last question, and the table that it leaves
+abbrev pub said : Result Table SetFault → Answer
+said (Ok _) = Ok tt
+said (Err f) = Err f
+
+abbrev pub left_by : Table → Result Table SetFault → Table
+left_by t (Ok u) = u
+left_by t (Err f) = t
+
 module _ (k : Kind) (s : ℕ → ℕ) where
-  -- an edit as a step of the ledger and as a step of any history
+  -- an edit as a step of the ledger, where its numbers are within their limits, and as a step of any history
   abbrev pub Turn : Edit → Answer → Table → Table → Type 0
-  Turn e a t u = StepsIfSound k s e a t u × GoesOn k s e a t u
+  Turn e a t u = (Sound k (ledger t) → Step k s (ledger t) e a (ledger u)) × GoesOn k s e a t u
 
   pub refused : (e : Edit) (f : SetFault) (t : Table) → (Sound k (ledger t) → FirstNo (questions k s (ledger t) e) f) → Turn e (Err f) t t
   refused e f t no' = (λ ok. (no' ok, refl), λ es rs st. after_refused e f st (no' st.sound))
@@ -52,11 +61,6 @@ module _ (k : Kind) (s : ℕ → ℕ) where
       subst (λ g. Turn (Insert p row d) (Err g) t t) same
       (refused (Insert p row d) (Row fault) t (λ _. inr (room, inr (gap, inl ((λ lawful. omega arith), refl)))))
 
-  -- a table that is not taken over leaves the old one untouched
-  pub served_untouched : (x t u : Table) (r : Answer) → TakenOver k s x r t u → Untouched r t u
-  served_untouched x t u (Ok _) h = tt
-  served_untouched x t u (Err f) (which, same, unserved) = same
-
   module _ (laws : Laws k) where
     -- taken, and the ceilings settled
     pub taken : (e : Edit) (t x u : Table) → ledger x ≡ edited (ledger t) e → (Sound k (ledger t) → AllYes (questions k s (ledger t) e)) → Settled k s x u → Turn e (Ok tt) t u
@@ -78,21 +82,20 @@ module _ (k : Kind) (s : ℕ → ℕ) where
       sound : Sound k (ledger t) → Sound k (ledger x)
       sound ok = subst (Sound k) (sym is) (kept ok)
 
-      asked_last : (u : Table) (r : Answer) → (CanServe → AllYes (questions k s (ledger t) e)) → ((CanServe → ⊥) → FirstNo (questions k s (ledger t) e) Unserved) → TakenOver k s x r t u → Turn e r t u
-      asked_last u (Ok _) yes' no' (settled, serves) = taken e t x u is (λ ok. yes' (subst (Servable k s) is (serves (sound ok)))) settled
-      asked_last u (Err f) yes' no' (which, same, unserved) =
-          subst (λ v. Turn e (Err f) t v) (sym same)
-          (subst (λ g. Turn e (Err g) t t) (sym which)
-          (refused e Unserved t (λ ok. no' (λ can. unserved (sound ok) (subst (Servable k s) (sym is) can)))))
+      asked_last : (r : Result Table SetFault) → (CanServe → AllYes (questions k s (ledger t) e)) → ((CanServe → ⊥) → FirstNo (questions k s (ledger t) e) Unserved) → Served k s x r → Turn e (said r) t (left_by t r)
+      asked_last (Ok u) yes' no' (settled, serves) = taken e t x u is (λ ok. yes' (subst (Servable k s) is (serves (sound ok)))) settled
+      asked_last (Err f) yes' no' (which, unserved) =
+          subst (λ g. Turn e (Err g) t t) (sym which)
+          (refused e Unserved t (λ ok. no' (λ can. unserved (sound ok) (subst (Servable k s) (sym is) can))))
 
-    pub insert_asked : (p : ℕ) (row : List ℕ) (d : ℕ) (t x u : Table) (r : Answer) → Entered (ledger t) (Insert p row d) (Ok tt) (ledger x) → k.fault row ≡ 0 → (1 ≤ d) × (d ≤ k.separation row) → TakenOver k s x r t u → Turn (Insert p row d) r t u
-    insert_asked p row d t x u r ((room, (gap, _)), is) lawful deadline =
-        asked_last (Insert p row d) t x is (insert_sound k (ledger t) p row d room gap lawful deadline) u r
+    pub insert_asked : (p : ℕ) (row : List ℕ) (d : ℕ) (t x : Table) (r : Result Table SetFault) → Entered (ledger t) (Insert p row d) (Ok tt) (ledger x) → k.fault row ≡ 0 → (1 ≤ d) × (d ≤ k.separation row) → Served k s x r → Turn (Insert p row d) (said r) t (left_by t r)
+    insert_asked p row d t x r ((room, (gap, _)), is) lawful deadline =
+        asked_last (Insert p row d) t x is (insert_sound k (ledger t) p row d room gap lawful deadline) r
         (λ can. (room, (gap, (lawful, (deadline, (can, tt))))))
         (λ cannot. inr (room, inr (gap, inr (lawful, inr (deadline, inl (cannot, refl))))))
 
-    pub section_asked : (p j n : ℕ) (t x u : Table) (r : Answer) → Entered (ledger t) (Section p j n) (Ok tt) (ledger x) → n ≤ job k (ledger t) p → TakenOver k s x r t u → Turn (Section p j n) r t u
-    section_asked p j n t x u r ((at, (resource, _)), is) short =
-        asked_last (Section p j n) t x is (section_sound k (ledger t) p j n at short) u r
+    pub section_asked : (p j n : ℕ) (t x : Table) (r : Result Table SetFault) → Entered (ledger t) (Section p j n) (Ok tt) (ledger x) → n ≤ job k (ledger t) p → Served k s x r → Turn (Section p j n) (said r) t (left_by t r)
+    section_asked p j n t x r ((at, (resource, _)), is) short =
+        asked_last (Section p j n) t x is (section_sound k (ledger t) p j n at short) r
         (λ can. (at, (resource, (short, (can, tt)))))
         (λ cannot. inr (at, inr (resource, inr (short, inl (cannot, refl)))))

@@ -1,18 +1,17 @@
 -- What the calls on a set answer of its tasks and resources.
 use Rattle.std.specs.Prelude.{◌≡◌, ℕ, ◌<◌, ◌≤◌, List, take, ℤ, pos, ◌≤ℤ◌, Ok, Err, Result}
 use Rattle.loads.specs.Kind.{Kind}
+use Rattle.loads.specs.declared.kind.LoadKind.{Ghosts as Kinds}
+use Rattle.supplies.specs.declared.supply.Supply.{Ghosts as Supplies}
 use Rattle.analysis.specs.Instants.{first_covered}
-use Rattle.ledger.specs.declared.edit.Edit.{Edit}
 use Rattle.ledger.specs.declared.fault.SetFault.{SetFault}
 use Rattle.ledger.specs.declared.fault.SetFault.TheVariants.{Position, Resource}
 use Rattle.ledger.specs.Ceilings.{natural, ceiling, blocking}
-use Rattle.ledger.specs.History.{Answer}
 use Rattle.ledger.specs.Instants.{or_0, slack, first_with, first_instant, FirstInstant, held_for, hold, Held}
 use Rattle.ledger.specs.Ledger.{Task, Ledger, task, rows, section}
 use Rattle.ledger.specs.Questions.{AtTask, AtResource}
 use Rattle.table.specs.Tables.{ledger, held}
 use Rattle.taskset.specs.declared.set.TaskSet.{TaskSet}
-use Rattle.taskset.specs.Sets.{Stands}
 
 -- ---- by a ledger and a table of ceilings
 
@@ -52,16 +51,16 @@ module _ (k : Kind) (s : ℕ → ℕ) (l : Ledger) (c : List ℕ) where
   ServedResource j (Ok x) = (p : ℕ) → AtTask l p → 0 < section (task l p) j → Held k s l c j (task l p)
   ServedResource j (Err f) = Unit {0}
 
--- ---- of a set whose kind and supply have these meanings
+-- ---- of a set
 
-module _ {K S : Type 0} (means : K → Kind) (gives : S → ℕ → ℕ) (set : TaskSet K S) where
+module _ {K S : Type 0} (kinds : Kinds K) (supplies : Supplies S) (set : TaskSet K S kinds supplies) where
   -- what its kind means
   abbrev its_kind : Kind
-  its_kind = means set.kind
+  its_kind = kinds.means set.kind
 
   -- what its supply gives
   abbrev its_supply : ℕ → ℕ
-  its_supply = gives set.supply
+  its_supply = supplies.gives set.supply
 
   -- what was entered
   abbrev its_ledger : Ledger
@@ -71,19 +70,15 @@ module _ {K S : Type 0} (means : K → Kind) (gives : S → ℕ → ℕ) (set : 
   abbrev its_ceilings : List ℕ
   its_ceilings = held set.table
 
-  -- some history has left the set
-  abbrev AfterEdits : Type 0
-  AfterEdits = (es : List Edit) × (rs : List Answer) × Stands its_kind its_supply es rs set.table
-
   -- what is answered about the task at a position
   pub record TaskAnswer (p : ℕ) (r : Result (ℕ × ℤ × ℕ) SetFault) : Type 0 where
     pub is : OfTask its_kind its_supply its_ledger its_ceilings p r
-    pub served : AfterEdits → ServedTask its_kind its_supply its_ledger its_ceilings p r
+    pub served : ServedTask its_kind its_supply its_ledger its_ceilings p r
 
   -- what is answered about a resource
   pub record ResourceAnswer (j : ℕ) (r : Result (ℕ × ℕ × ℕ) SetFault) : Type 0 where
     pub is : OfResource its_kind its_supply its_ledger its_ceilings j r
-    pub served : AfterEdits → ServedResource its_kind its_supply its_ledger its_ceilings j r
+    pub served : ServedResource its_kind its_supply its_ledger its_ceilings j r
 
   -- ---- what the steps of these calls answer
 

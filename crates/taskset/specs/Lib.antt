@@ -1,3 +1,4 @@
 pub mod Reckoning
+pub mod Standing
 pub mod Sets
 pub mod Figures

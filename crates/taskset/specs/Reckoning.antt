@@ -1,8 +1,8 @@
--- What the steps of an edit leave: slacks reckoned, ceilings settled, an edited table taken over.
-use Rattle.std.specs.Prelude.{◌≡◌, ℕ, ◌≤◌, List, length, ℤ, Ok, Err}
+-- What the steps of an edit answer: slacks reckoned, ceilings settled, whether an edited table can be served.
+use Rattle.std.specs.Prelude.{◌≡◌, ℕ, ◌≤◌, List, length, ℤ, Ok, Err, Result}
 use Rattle.loads.specs.Kind.{Kind}
+use Rattle.ledger.specs.declared.fault.SetFault.{SetFault}
 use Rattle.ledger.specs.declared.fault.SetFault.TheVariants.{Unserved}
-use Rattle.ledger.specs.History.{Answer}
 use Rattle.ledger.specs.Instants.{job, slack, Servable}
 use Rattle.ledger.specs.Ledger.{Ledger}
 use Rattle.ledger.specs.Questions.{AtTask}
@@ -26,7 +26,7 @@ module _ (k : Kind) (s : ℕ → ℕ) where
     pub entries : ledger after ≡ ledger before
     pub ceilings : held after ≡ lowest_table (slack k s (ledger before)) (ledger before)
 
-  -- an edited table is taken over with the lowest ceilings where some table fits and serves, and refused where none does; of a ledger whose numbers are within their limits
-  abbrev pub TakenOver : Table → Answer → Table → Table → Type 0
-  TakenOver edited (Ok _) before after = Settled edited after × (Sound k (ledger edited) → Servable k s (ledger edited))
-  TakenOver edited (Err f) before after = (f ≡ Unserved) × (after ≡ before) × (Sound k (ledger edited) → Servable k s (ledger edited) → ⊥)
+  -- the answer to whether an edited table can be served: it with the lowest ceilings, where some table of ceilings fits and serves, and a refusal where none does; of a ledger whose numbers are within their limits
+  abbrev pub Served : Table → Result Table SetFault → Type 0
+  Served edited (Ok after) = Settled edited after × (Sound k (ledger edited) → Servable k s (ledger edited))
+  Served edited (Err f) = (f ≡ Unserved) × (Sound k (ledger edited) → Servable k s (ledger edited) → ⊥)

@@ -24,7 +24,7 @@ impl<K: LoadKind, S: Supply> TaskSet<K, S> {
     /// there is none.
     fn covered_at(&self, above: usize, base: u64, limit: u64) -> u64
         requires { above ≤ length (ledger self.now.table).tasks }
-        ensures { result ≡ covered_by K.means S.gives self.now above base limit }
+        ensures { result ≡ covered_by K.LoadKind S.Supply self.now above base limit }
     {
         let rows = &self.table.rows()[..above];
         match first_instant(&self.kind, &self.supply, rows, base, limit) {
@@ -36,7 +36,7 @@ impl<K: LoadKind, S: Supply> TaskSet<K, S> {
     /// The first instant of the task with an index, with a blocking; 0 where there is none.
     fn first_of(&self, at: usize, blocking: u64) -> u64
         requires { at < length (ledger self.now.table).tasks }
-        ensures { result ≡ first_at K.means S.gives self.now (at + 1) blocking }
+        ensures { result ≡ first_at K.LoadKind S.Supply self.now (at + 1) blocking }
     {
         let longest = self.kind.longest(&self.table.rows()[at]);
         let deadline = self.table.deadlines()[at];
@@ -45,7 +45,7 @@ impl<K: LoadKind, S: Supply> TaskSet<K, S> {
 
     /// What there is to say of the task at a position: its blocking, its slack and its first instant.
     pub fn task(&self, position: u64) -> Result<(u64, i64, u64), SetFault>
-        ensures { TaskAnswer K.means S.gives self.now position result }
+        ensures { TaskAnswer K.LoadKind S.Supply self.now position result }
     {
         let Some(at) = index_of(position, self.table.count()) else {
             return Err(SetFault::Position);
@@ -57,7 +57,7 @@ impl<K: LoadKind, S: Supply> TaskSet<K, S> {
 
     /// How long the task with an index may hold a resource, by its index; 0 where it does not use it.
     fn held_for(&self, at: usize, j: usize) -> u64
-        ensures { result ≡ held_by K.means S.gives self.now (j + 1) (slice_index_or (ledger self.now.table).tasks at no_task) }
+        ensures { result ≡ held_by K.LoadKind S.Supply self.now (j + 1) (slice_index_or (ledger self.now.table).tasks at no_task) }
     {
         let length = self.table.length(at, j);
         if length == 0 {
@@ -69,7 +69,7 @@ impl<K: LoadKind, S: Supply> TaskSet<K, S> {
 
     /// The hold time of a resource by its index.
     fn hold(&self, j: usize) -> u64
-        ensures { result ≡ hold_of K.means S.gives self.now (j + 1) }
+        ensures { result ≡ hold_of K.LoadKind S.Supply self.now (j + 1) }
     {
         let mut longest: u64 = 0;
         for at in 0..self.table.count() {
@@ -80,7 +80,7 @@ impl<K: LoadKind, S: Supply> TaskSet<K, S> {
 
     /// What there is to say of a resource: its natural ceiling, its held ceiling and its hold time.
     pub fn resource(&self, resource: u64) -> Result<(u64, u64, u64), SetFault>
-        ensures { ResourceAnswer K.means S.gives self.now resource result }
+        ensures { ResourceAnswer K.LoadKind S.Supply self.now resource result }
     {
         let Some(j) = index_of(resource, RESOURCES) else {
             return Err(SetFault::Resource);

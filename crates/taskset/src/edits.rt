@@ -2,7 +2,7 @@
 ghost use Rattle.std.specs.Prelude.{◌≡◌};
 ghost use Rattle.ledger.specs.declared.edit.Edit.TheVariants.{Insert, Withdraw, Section};
 ghost use Rattle.ledger.specs.declared.edit.Edit.TheVariants.{Mark as Marked};
-ghost use Rattle.taskset.specs.Reckoning.{Settled, TakenOver};
+ghost use Rattle.taskset.specs.Reckoning.{Settled, Served};
 ghost use Rattle.taskset.specs.Sets.{Edited};
 
 use crate::reckoning::{longest_job, slacks};
@@ -13,34 +13,30 @@ use supplies::Supply;
 use table::{Table, from_one_to};
 
 impl<K: LoadKind, S: Supply> TaskSet<K, S> {
-    /// Settles every ceiling afresh.
-    fn settle(&mut self)
-        ensures kind { self.new.kind ≡ self.old.kind }
-        ensures supply { self.new.supply ≡ self.old.supply }
-        ensures settled { Settled (K.means self.old.kind) (S.gives self.old.supply) self.old.table self.new.table }
+    /// A table with every ceiling settled afresh.
+    fn settled(&self, mut table: Table) -> Table
+        ensures { Settled (K.means self.now.kind) (S.gives self.now.supply) table result }
     {
-        let slacks = slacks(&self.kind, &self.supply, &self.table);
-        self.table.settle(&slacks);
+        let slacks = slacks(&self.kind, &self.supply, &table);
+        table.settle(&slacks);
+        table
     }
 
-    /// Takes an edited table over with its ceilings settled, if some table of ceilings fits and leaves every task an instant.
-    fn take_over(&mut self, mut edited: Table) -> Result<(), SetFault>
-        ensures kind { self.new.kind ≡ self.old.kind }
-        ensures supply { self.new.supply ≡ self.old.supply }
-        ensures served { TakenOver (K.means self.old.kind) (S.gives self.old.supply) edited result self.old.table self.new.table }
+    /// An edited table with every ceiling settled afresh, if some table of ceilings fits and leaves every task an instant.
+    fn served(&self, mut edited: Table) -> Result<Table, SetFault>
+        ensures { Served (K.means self.now.kind) (S.gives self.now.supply) edited result }
     {
         let slacks = slacks(&self.kind, &self.supply, &edited);
         if !edited.bearable(&slacks) {
             return Err(SetFault::Unserved);
         }
         edited.settle(&slacks);
-        self.table = edited;
-        Ok(())
+        Ok(edited)
     }
 
     /// Puts a task in at a position; later tasks move down, and the new task uses no resource.
     pub fn insert(&mut self, position: u64, row: Row, deadline: u64) -> Result<(), SetFault>
-        ensures { Edited K.means S.gives (Insert position row deadline) result self.old self.new }
+        ensures { Edited K.LoadKind S.Supply (Insert position row deadline) result self.old self.new }
     {
         let mut edited = self.table;
         edited.insert(position, row, deadline)?;
@@ -48,42 +44,46 @@ impl<K: LoadKind, S: Supply> TaskSet<K, S> {
         if !from_one_to(deadline, self.kind.separation(&row)) {
             return Err(SetFault::Deadline);
         }
-        self.take_over(edited)
+        self.table = self.served(edited)?;
+        Ok(())
     }
 
     /// Takes the task at a position out; later tasks move up.
     pub fn withdraw(&mut self, position: u64) -> Result<(), SetFault>
-        ensures { Edited K.means S.gives (Withdraw position) result self.old self.new }
+        ensures { Edited K.LoadKind S.Supply (Withdraw position) result self.old self.new }
     {
-        self.table.withdraw(position)?;
-        self.settle();
+        let mut edited = self.table;
+        edited.withdraw(position)?;
+        self.table = self.settled(edited);
         Ok(())
     }
 
     /// Sets the longest section of a task on a resource, 0 for no use.
     pub fn section(&mut self, position: u64, resource: u64, length: u64) -> Result<(), SetFault>
-        ensures { Edited K.means S.gives (Section position resource length) result self.old self.new }
+        ensures { Edited K.LoadKind S.Supply (Section position resource length) result self.old self.new }
     {
         let mut edited = self.table;
         edited.section(position, resource, length)?;
         if length > longest_job(&self.kind, &self.table, position) {
             return Err(SetFault::Length);
         }
-        self.take_over(edited)
+        self.table = self.served(edited)?;
+        Ok(())
     }
 
     /// Marks a resource.
     pub fn mark(&mut self, resource: u64, mark: Mark) -> Result<(), SetFault>
-        ensures { Edited K.means S.gives (Marked resource mark) result self.old self.new }
+        ensures { Edited K.LoadKind S.Supply (Marked resource mark) result self.old self.new }
     {
-        self.table.mark(resource, mark)?;
-        self.settle();
+        let mut edited = self.table;
+        edited.mark(resource, mark)?;
+        self.table = self.settled(edited);
         Ok(())
     }
 
     /// Makes one edit.
     pub fn edit(&mut self, edit: Edit) -> Result<(), SetFault>
-        ensures { Edited K.means S.gives edit result self.old self.new }
+        ensures { Edited K.LoadKind S.Supply edit result self.old self.new }
     {
         match edit {
             Edit::Insert {

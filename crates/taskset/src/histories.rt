@@ -14,7 +14,7 @@ pub fn replay<K: LoadKind + Drop, S: Supply + Drop>(
     edits: &[Edit],
     answers: &mut [Result<(), SetFault>],
 ) -> Option<TaskSet<K, S>>
-    ensures { Replayed K.means S.gives kind supply edits.now result answers.old answers.new }
+    ensures { Replayed K.LoadKind S.Supply kind supply edits.now result answers.old answers.new }
 {
     if answers.len() < edits.len() {
         return None;

@@ -1,6 +1,6 @@
 //! A task set.
 ghost use Rattle.std.specs.Prelude.{◌≡◌, []};
-ghost use Rattle.taskset.specs.Sets.{Stands};
+ghost use Rattle.taskset.specs.Standing.{Stands, LeftByEdits};
 
 use loads::LoadKind;
 use supplies::Supply;
@@ -12,6 +12,8 @@ pub struct TaskSet<K: LoadKind, S: Supply> {
     pub(crate) kind: K,
     pub(crate) supply: S,
     pub(crate) table: Table,
+    // some history of edits has left the table
+    ghost left: { ∥ LeftByEdits (K.means kind) (S.gives supply) table ∥₁ },
 }
 
 impl<K: LoadKind, S: Supply> TaskSet<K, S> {

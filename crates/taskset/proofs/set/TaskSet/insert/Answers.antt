@@ -1,9 +1,12 @@
-use Rattle.std.proofs.Common.{◌≤◌, refl, inl, inr, arith}
+use Rattle.std.proofs.Common.{◌≤◌, Ok, Err, refl, inl, inr, arith}
 use Rattle.std.proofs.lemmas.Bool.Decides.{not_from_Decides}
 use Rattle.ledger.specs.declared.edit.Edit.TheVariants.{Insert}
 use Rattle.ledger.specs.declared.fault.SetFault.TheVariants.{Row, Deadline}
-use Rattle.taskset.proofs.Steps.{refused, refused_on, refused_by, row_refused, insert_asked, served_untouched}
+use Rattle.taskset.proofs.Left.{left_on, edited_set}
+use Rattle.taskset.proofs.Steps.{Turn, refused, refused_on, refused_by, row_refused, insert_asked}
 use Rattle.taskset.proofs.set.TaskSet.insert.Goals as goal
+use Rattle.taskset.proofs.set.TaskSet.insert.Goals.{In_ok-self}
+use Rattle.taskset.proofs.set.TaskSet.insert.Given.{Over}
 
 pub returns-in_err-insert : goal.returns-in_err-insert
 returns-in_err-insert g c =
@@ -12,7 +15,7 @@ returns-in_err-insert g c =
     let t = c.args.self.now.table in
     let said = c.in_err-insert.ensures in
     let (same, turn) = refused_by k s (Insert c.args.position c.args.row c.args.deadline) c.in_err-insert.field-0.0 t t c.from_residual.result c.from_residual.ensures.1 said.entered.0 refl in
-    record { kind = refl; supply = refl; untouched = same; steps = turn.0; goes_on = turn.1 }
+    edited_set _ _ _ _ _ _ refl refl same turn
 
 pub returns-in_err-lawful : goal.returns-in_err-lawful
 returns-in_err-lawful g c =
@@ -22,7 +25,7 @@ returns-in_err-lawful g c =
     let fault = c.in_err-lawful.field-0.0 in
     let refusal = row_refused k s c.args.position c.args.row c.args.deadline fault t c.insert.new.self c.in_ok-insert.ensures.entered c.in_err-lawful.ensures in
     let (same, turn) = refused_on k s (Insert c.args.position c.args.row c.args.deadline) (Row fault) t c.from_residual-in_err-lawful.result c.from_residual-in_err-lawful.ensures.1 refusal in
-    record { kind = refl; supply = refl; untouched = same; steps = turn.0; goes_on = turn.1 }
+    edited_set _ _ _ _ _ _ refl refl same turn
 
 pub returns-then-not-from_one_to : goal.returns-then-not-from_one_to
 returns-then-not-from_one_to g c =
@@ -31,24 +34,26 @@ returns-then-not-from_one_to g c =
     let ((room, (gap, _)), _) = c.in_ok-insert.ensures.entered in
     let late : (1 ≤ c.args.deadline) × (c.args.deadline ≤ k.separation c.args.row) → ⊥ = λ within. not_from_Decides c.from_one_to.result c.from_one_to.ensures c.if-not-from_one_to.true (within.0, omega (arith, within.1, c.separation.ensures)) in
     let turn = refused k s (Insert c.args.position c.args.row c.args.deadline) Deadline c.args.self.now.table (λ _. inr (room, inr (gap, inr (c.in_ok-lawful.ensures, inl (late, refl))))) in
-    record {
-      kind = refl;
-      supply = refl;
-      untouched = refl;
-      steps = turn.0;
-      goes_on = turn.1;
-    }
+    edited_set _ _ _ _ _ _ refl refl refl turn
 
-pub returns : goal.returns
-returns g c =
+pub returns-in_err-self : goal.returns-in_err-self
+returns-in_err-self g c =
     let k = g.K.LoadKind.means c.args.self.now.kind in
     let s = g.S.Supply.gives c.args.self.now.supply in
     let within = c.from_one_to.ensures.0 c.if-not-from_one_to.false in
-    let turn = insert_asked k s (g.met.K.LoadKind.laws c.args.self.now.kind) c.args.position c.args.row c.args.deadline c.args.self.now.table c.insert.new.self c.take_over.new.self.table c.take_over.result c.in_ok-insert.ensures.entered c.in_ok-lawful.ensures (within.0, omega (arith, within.1, c.separation.ensures)) c.take_over.ensures.served in
-    record {
-      kind = c.take_over.ensures.kind;
-      supply = c.take_over.ensures.supply;
-      untouched = served_untouched k s c.insert.new.self c.args.self.now.table c.take_over.new.self.table c.take_over.result c.take_over.ensures.served;
-      steps = turn.0;
-      goes_on = turn.1;
-    }
+    let turn = insert_asked k s (g.met.K.LoadKind.laws c.args.self.now.kind) c.args.position c.args.row c.args.deadline c.args.self.now.table c.insert.new.self (Err c.in_err-self.field-0.0) c.in_ok-insert.ensures.entered c.in_ok-lawful.ensures (within.0, omega (arith, within.1, c.separation.ensures)) c.in_err-self.ensures in
+    let (same, turned) = refused_on k s (Insert c.args.position c.args.row c.args.deadline) c.in_err-self.field-0.0 c.args.self.now.table c.from_residual-in_err-self.result c.from_residual-in_err-self.ensures.1 turn in
+    edited_set _ _ _ _ _ _ refl refl same turned
+
+turn : (g : Over) (c : In_ok-self g) → Turn (g.K.LoadKind.means c.args.self.now.kind) (g.S.Supply.gives c.args.self.now.supply) (Insert c.args.position c.args.row c.args.deadline) (Ok tt) c.args.self.now.table c.in_ok-self.field-0
+turn g c =
+    let within = c.from_one_to.ensures.0 c.if-not-from_one_to.false in
+    insert_asked (g.K.LoadKind.means c.args.self.now.kind) (g.S.Supply.gives c.args.self.now.supply) (g.met.K.LoadKind.laws c.args.self.now.kind) c.args.position c.args.row c.args.deadline c.args.self.now.table c.insert.new.self (Ok c.in_ok-self.field-0) c.in_ok-insert.ensures.entered c.in_ok-lawful.ensures (within.0, omega (arith, within.1, c.separation.ensures)) c.in_ok-self.ensures
+
+pub returns : goal.returns
+returns g c = edited_set _ _ _ _ _ _ refl refl tt (turn g c.before)
+
+pub invariant_of-self : goal.invariant_of-self
+invariant_of-self g c =
+    let now = c.args.self.now in
+    record { left = left_on (g.K.LoadKind.means now.kind) (g.S.Supply.gives now.supply) now.table now.left (Insert c.args.position c.args.row c.args.deadline) (Ok tt) c.in_ok-self.field-0 (turn g c).1 }

@@ -1,26 +1,28 @@
-use Rattle.std.proofs.Common.{refl}
+use Rattle.std.proofs.Common.{Ok, refl}
 use Rattle.ledger.specs.declared.edit.Edit.TheVariants.{Mark as Marked}
-use Rattle.taskset.proofs.Steps.{refused_by, taken}
+use Rattle.taskset.proofs.Left.{left_on, edited_set}
+use Rattle.taskset.proofs.Steps.{Turn, refused_by, taken}
 use Rattle.taskset.proofs.set.TaskSet.mark.Goals as goal
+use Rattle.taskset.proofs.set.TaskSet.mark.Goals.{After-settled-self}
+use Rattle.taskset.proofs.set.TaskSet.mark.Given.{Over}
 
 pub returns-in_err-mark : goal.returns-in_err-mark
 returns-in_err-mark g c =
     let k = g.K.LoadKind.means c.args.self.now.kind in
     let s = g.S.Supply.gives c.args.self.now.supply in
-    let said = c.in_err-mark.ensures in
-    let (same, turn) = refused_by k s (Marked c.args.resource c.args.mark) c.in_err-mark.field-0.0 c.args.self.now.table c.mark.new.self c.from_residual.result c.from_residual.ensures.1 said.entered.0 said.unsettled in
-    record { kind = refl; supply = refl; untouched = same; steps = turn.0; goes_on = turn.1 }
+    let t = c.args.self.now.table in
+    let (same, turn) = refused_by k s (Marked c.args.resource c.args.mark) c.in_err-mark.field-0.0 t t c.from_residual.result c.from_residual.ensures.1 c.in_err-mark.ensures.entered.0 refl in
+    edited_set _ _ _ _ _ _ refl refl same turn
+
+turn : (g : Over) (c : After-settled-self g) → Turn (g.K.LoadKind.means c.args.self.now.kind) (g.S.Supply.gives c.args.self.now.supply) (Marked c.args.resource c.args.mark) (Ok tt) c.args.self.now.table c.settled-self.result
+turn g c =
+    let said = c.in_ok-mark.ensures in
+    taken (g.K.LoadKind.means c.args.self.now.kind) (g.S.Supply.gives c.args.self.now.supply) (g.met.K.LoadKind.laws c.args.self.now.kind) (Marked c.args.resource c.args.mark) c.args.self.now.table c.mark.new.self c.settled-self.result said.entered.1 (λ _. said.entered.0) c.settled-self.ensures
 
 pub returns : goal.returns
-returns g c =
-    let k = g.K.LoadKind.means c.args.self.now.kind in
-    let s = g.S.Supply.gives c.args.self.now.supply in
-    let said = c.in_ok-mark.ensures in
-    let turn = taken k s (g.met.K.LoadKind.laws c.args.self.now.kind) (Marked c.args.resource c.args.mark) c.args.self.now.table c.mark.new.self c.settle.new.self.table said.entered.1 (λ _. said.entered.0) c.settle.ensures.settled in
-    record {
-      kind = c.settle.ensures.kind;
-      supply = c.settle.ensures.supply;
-      untouched = tt;
-      steps = turn.0;
-      goes_on = turn.1;
-    }
+returns g c = edited_set _ _ _ _ _ _ refl refl tt (turn g c.before)
+
+pub invariant_of-self : goal.invariant_of-self
+invariant_of-self g c =
+    let now = c.args.self.now in
+    record { left = left_on (g.K.LoadKind.means now.kind) (g.S.Supply.gives now.supply) now.table now.left (Marked c.args.resource c.args.mark) (Ok tt) c.settled-self.result (turn g c).1 }

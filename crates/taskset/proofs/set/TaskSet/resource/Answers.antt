@@ -2,7 +2,8 @@ use Rattle.std.proofs.Common.{ℕ, ◌≤◌, List, Ok, sym, subst}
 use Rattle.ledger.specs.Ledger.{Ledger}
 use Rattle.table.specs.Tables.{ledger, held}
 use Rattle.taskset.specs.Figures.{OfResource}
-use Rattle.taskset.proofs.Figured.{resource_figures, served_resource}
+use Rattle.taskset.proofs.Figured.{resource_figures}
+use Rattle.taskset.proofs.Left.{left_serves_resource}
 use Rattle.taskset.proofs.set.TaskSet.resource.Goals as goal
 
 pub returns : goal.returns
@@ -15,4 +16,4 @@ returns g c =
     let low : c.ceiling.result ≤ c.natural.result = subst (λ (n : ℕ). c.ceiling.result ≤ n) (sym c.natural.ensures) c.ceiling.ensures.low in
     let figures : OfResource k s l ceilings c.args.resource (Ok (c.natural.result, c.ceiling.result, c.hold.result)) =
     resource_figures k s l ceilings c.args.resource c.in-Some.j c.natural.result c.ceiling.result c.hold.result is below c.natural.ensures c.ceiling.ensures.is low c.hold.ensures in
-    record { is = figures; served = λ (es, rs, st). served_resource k s l ceilings c.args.resource (c.natural.result, c.ceiling.result, c.hold.result) es rs figures st }
+    record { is = figures; served = left_serves_resource k s c.args.self.now.table c.args.self.now.left c.args.resource (c.natural.result, c.ceiling.result, c.hold.result) figures }

@@ -1,10 +1,13 @@
-use Rattle.std.proofs.Common.{◌≤◌, refl, inl, inr, arith}
+use Rattle.std.proofs.Common.{◌≤◌, Ok, Err, refl, inl, inr, arith}
 use Rattle.ledger.specs.declared.edit.Edit.TheVariants.{Section}
 use Rattle.ledger.specs.declared.fault.SetFault.TheVariants.{Length}
 use Rattle.ledger.specs.Instants.{job}
 use Rattle.table.specs.Tables.{ledger}
-use Rattle.taskset.proofs.Steps.{refused, refused_by, section_asked, served_untouched}
+use Rattle.taskset.proofs.Left.{left_on, edited_set}
+use Rattle.taskset.proofs.Steps.{Turn, refused, refused_on, refused_by, section_asked}
 use Rattle.taskset.proofs.set.TaskSet.section.Goals as goal
+use Rattle.taskset.proofs.set.TaskSet.section.Goals.{In_ok-self}
+use Rattle.taskset.proofs.set.TaskSet.section.Given.{Over}
 
 pub returns-in_err-section : goal.returns-in_err-section
 returns-in_err-section g c =
@@ -13,7 +16,7 @@ returns-in_err-section g c =
     let t = c.args.self.now.table in
     let said = c.in_err-section.ensures in
     let (same, turn) = refused_by k s (Section c.args.position c.args.resource c.args.length) c.in_err-section.field-0.0 t t c.from_residual.result c.from_residual.ensures.1 said.entered.0 refl in
-    record { kind = refl; supply = refl; untouched = same; steps = turn.0; goes_on = turn.1 }
+    edited_set _ _ _ _ _ _ refl refl same turn
 
 pub returns-then-length-longest_job : goal.returns-then-length-longest_job
 returns-then-length-longest_job g c =
@@ -23,26 +26,26 @@ returns-then-length-longest_job g c =
     let ((at, (resource, _)), _) = c.in_ok-section.ensures.entered in
     let long : c.args.length ≤ job k (ledger t) c.args.position → ⊥ = λ short. omega (arith, c.longest_job.ensures.there at) in
     let turn = refused k s (Section c.args.position c.args.resource c.args.length) Length t (λ _. inr (at, inr (resource, inl (long, refl)))) in
-    record {
-      kind = refl;
-      supply = refl;
-      untouched = refl;
-      steps = turn.0;
-      goes_on = turn.1;
-    }
+    edited_set _ _ _ _ _ _ refl refl refl turn
 
-pub returns : goal.returns
-returns g c =
+pub returns-in_err-self : goal.returns-in_err-self
+returns-in_err-self g c =
     let k = g.K.LoadKind.means c.args.self.now.kind in
     let s = g.S.Supply.gives c.args.self.now.supply in
-    let t = c.args.self.now.table in
-    let said = c.in_ok-section.ensures.entered in
-    let short : c.args.length ≤ job k (ledger t) c.args.position = omega (arith, c.longest_job.ensures.there said.0.0) in
-    let turn = section_asked k s (g.met.K.LoadKind.laws c.args.self.now.kind) c.args.position c.args.resource c.args.length t c.section.new.self c.take_over.new.self.table c.take_over.result said short c.take_over.ensures.served in
-    record {
-      kind = c.take_over.ensures.kind;
-      supply = c.take_over.ensures.supply;
-      untouched = served_untouched k s c.section.new.self c.args.self.now.table c.take_over.new.self.table c.take_over.result c.take_over.ensures.served;
-      steps = turn.0;
-      goes_on = turn.1;
-    }
+    let short : c.args.length ≤ job (g.K.LoadKind.means c.args.self.now.kind) (ledger c.args.self.now.table) c.args.position = omega (arith, c.longest_job.ensures.there c.in_ok-section.ensures.entered.0.0) in
+    let turn = section_asked k s (g.met.K.LoadKind.laws c.args.self.now.kind) c.args.position c.args.resource c.args.length c.args.self.now.table c.section.new.self (Err c.in_err-self.field-0.0) c.in_ok-section.ensures.entered short c.in_err-self.ensures in
+    let (same, turned) = refused_on k s (Section c.args.position c.args.resource c.args.length) c.in_err-self.field-0.0 c.args.self.now.table c.from_residual-in_err-self.result c.from_residual-in_err-self.ensures.1 turn in
+    edited_set _ _ _ _ _ _ refl refl same turned
+
+turn : (g : Over) (c : In_ok-self g) → Turn (g.K.LoadKind.means c.args.self.now.kind) (g.S.Supply.gives c.args.self.now.supply) (Section c.args.position c.args.resource c.args.length) (Ok tt) c.args.self.now.table c.in_ok-self.field-0
+turn g c =
+    let short : c.args.length ≤ job (g.K.LoadKind.means c.args.self.now.kind) (ledger c.args.self.now.table) c.args.position = omega (arith, c.longest_job.ensures.there c.in_ok-section.ensures.entered.0.0) in
+    section_asked (g.K.LoadKind.means c.args.self.now.kind) (g.S.Supply.gives c.args.self.now.supply) (g.met.K.LoadKind.laws c.args.self.now.kind) c.args.position c.args.resource c.args.length c.args.self.now.table c.section.new.self (Ok c.in_ok-self.field-0) c.in_ok-section.ensures.entered short c.in_ok-self.ensures
+
+pub returns : goal.returns
+returns g c = edited_set _ _ _ _ _ _ refl refl tt (turn g c.before)
+
+pub invariant_of-self-2 : goal.invariant_of-self-2
+invariant_of-self-2 g c =
+    let now = c.args.self.now in
+    record { left = left_on (g.K.LoadKind.means now.kind) (g.S.Supply.gives now.supply) now.table now.left (Section c.args.position c.args.resource c.args.length) (Ok tt) c.in_ok-self.field-0 (turn g c).1 }

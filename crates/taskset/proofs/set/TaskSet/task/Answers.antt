@@ -4,7 +4,8 @@ use Rattle.ledger.specs.Ledger.{Ledger}
 use Rattle.table.specs.Tables.{ledger, held}
 use Rattle.ledger.specs.Instants.{first_with}
 use Rattle.taskset.specs.Figures.{OfTask}
-use Rattle.taskset.proofs.Figured.{task_figures, served_task}
+use Rattle.taskset.proofs.Figured.{task_figures}
+use Rattle.taskset.proofs.Left.{left_serves_task}
 use Rattle.taskset.proofs.set.TaskSet.task.Goals as goal
 use Rattle.taskset.proofs.set.TaskSet.task.Goals.{After-first_of}
 use Rattle.taskset.proofs.set.TaskSet.task.Given.{Over}
@@ -25,4 +26,4 @@ returns g c =
     task_figures k s l ceilings c.args.position at c.blocking-blocking.result z c.first_of.result c.in-Some.ensures.0 here c.blocking-blocking.ensures
     (to_z-of_z w64 c.slack_of-slack.result (fits g c) ∙ c.slack_of-slack.ensures)
     (c.first_of.ensures ∙ ap (λ (b : ℕ). first_with k s l (at + 1) b) c.blocking-blocking.ensures) in
-    record { is = figures; served = λ (es, rs, st). served_task k s l ceilings c.args.position (c.blocking-blocking.result, z, c.first_of.result) es rs figures st }
+    record { is = figures; served = left_serves_task k s c.args.self.now.table c.args.self.now.left c.args.position (c.blocking-blocking.result, z, c.first_of.result) figures }
