@@ -3,7 +3,7 @@ use Rattle.std.proofs.Common.{◌≡◌, ℕ, ◌+◌, ◌<◌, ◌≤◌, min, 
 use Rattle.std.specs.Int.{int_max}
 use Rattle.std.proofs.lemmas.Int.{ints}
 use Rattle.std.proofs.lemmas.Bool.{cases_lt}
-use Rattle.loads.specs.Kind.{Kind, Until}
+use Rattle.loads.specs.Kind.{Kind, Until, horizon}
 use Rattle.loads.specs.Kind.{Laws as KindLaws}
 use Rattle.supplies.specs.Supplied.{last_instant}
 use Rattle.supplies.specs.Supplied.{Laws as SupplyLaws}
@@ -18,26 +18,27 @@ module _ (k : Kind) (kind : KindLaws k) (s : ℕ → ℕ) (supply : SupplyLaws s
   abbrev left : ℕ → ℤ
   left = left_over k s above longest
 
-  -- a stretch from t to e
-  module _ (limit t e : ℕ) (within : t ≤ limit) (l : Until limit (requests k above) t e) where
+  -- a stretch from t on, cut off at a limit
+  module _ (limit t u e : ℕ) (within : t ≤ limit) (early : limit ≤ last_instant) (l : Until horizon (requests k above) t u) (cut : e ≡ min u limit) where
     end_after : t ≤ e
-    end_after = until_after limit (requests k above) t e within l
+    end_after = omega (arith, until_after horizon (requests k above) t u (omega arith) l)
 
     top : (v : ℕ) → t ≤ v → v ≤ e → left v ≤ℤ left e
     top v low high =
-        let same = flat (requests k above) (requests_rise k kind above) limit t e within l v low high in
-        let end = l.same in
+        let same = flat (requests k above) (requests_rise k kind above) horizon t u (omega arith) l in
+        let same_v = same v low (omega arith) in
+        let same_e = same e end_after (omega arith) in
         let more = supply_rises s supply v e high in
         omega (arith, ints)
 
     -- the first stretch
     pub first_stretch : (t ≤ e) × (e ≤ limit) × Largest left t e (left e)
-    first_stretch = (end_after, l.within, largest_first left t e end_after top)
+    first_stretch = (end_after, omega arith, largest_first left t e end_after top)
 
     -- one more stretch, after d
     pub next_stretch : (a d : ℕ) (most : ℤ) → a ≤ d → t ≡ d + 1 → Largest left a d most → (a ≤ e) × (e ≤ limit) × Largest left a e (int_max most (left e))
     next_stretch a d most low next so_far =
-        (omega (arith, end_after), l.within, largest_next left a d e most low (omega (arith, end_after)) so_far (λ v below high. top v (omega arith) high))
+        (omega (arith, end_after), omega arith, largest_next left a d e most low (omega (arith, end_after)) so_far (λ v below high. top v (omega arith) high))
 
   -- past the last instant none leaves more
   pub whole_range : (a b end : ℕ) (most : ℤ) → a ≤ last_instant → end ≡ max (min b last_instant) a → Largest left a end most → Largest left a b most

@@ -1,7 +1,7 @@
 -- Stretches of instants over which requests stay the same: one row more.
-use Rattle.std.proofs.Common.{◌≡◌, ℕ, ◌+◌, ◌<◌, ◌≤◌, min, ◌≢◌, List, [], length, get_or, take, sym, refl, ◌∙◌, ⊎_elim, arith}
-use Rattle.std.proofs.lemmas.Bool.{cases_lt, cases_eq}
-use Rattle.loads.specs.Kind.{Kind, Laws, Until, horizon}
+use Rattle.std.proofs.Common.{◌≡◌, ℕ, ◌+◌, ◌<◌, ◌≤◌, min, List, [], length, get_or, take, sym, refl, ◌∙◌, ⊎_elim, arith}
+use Rattle.std.proofs.lemmas.Bool.{cases_lt}
+use Rattle.loads.specs.Kind.{Kind, Laws, Until}
 use Rattle.analysis.specs.Instants.{requests}
 use Rattle.analysis.proofs.Totals.{requests_more, request_rises, requests_rise}
 
@@ -61,25 +61,3 @@ module _ (k : Kind) (laws : Laws k) where
       let row : List ℕ = get_or rows i [] in
       until_same last (λ v. before v + k.request row v) (requests k (take (i + 1) rows)) t (min e u) (λ v. sym (requests_more k rows i v here))
       (until_both before (k.request row) (requests_rise k laws (take i rows)) (request_rises k laws row) last t e u within l m)
-
-  -- what a kind answers of one row, cut off at the last instant: 0 where the row is unlawful, which never asks for anything
-  module _ (row : List ℕ) (t last u : ℕ) (some : 1 ≤ t) (within : t ≤ last) (early : last ≤ horizon) (lawful : k.fault row ≡ 0 → Until horizon (k.request row) t u) (unlawful : k.fault row ≢ 0 → u ≡ 0) where
-    pub never_changes : u < t → Until last (k.request row) t last
-    never_changes before =
-        ⊎_elim
-        (λ (yes' : k.fault row ≡ 0). absurd (omega (arith, until_after horizon (k.request row) t u (omega arith) (lawful yes'))))
-        (λ (no' : k.fault row ≡ 0 → ⊥). until_same last (λ _. 0) (k.request row) t last (λ v. sym ((laws.unlawful row no').no_request v)) (until_none last t))
-        (cases_eq (k.fault row) 0)
-
-    pub changes_later : t ≤ u → Until last (k.request row) t (min u last)
-    changes_later after =
-        ⊎_elim
-        (λ (yes' : k.fault row ≡ 0).
-        let l = lawful yes' in
-        record {
-          within = omega arith;
-          same = flat (k.request row) (request_rises k laws row) horizon t u (omega arith) l (min u last) (omega arith) (omega arith);
-          greatest = λ v above within' same. l.greatest v (omega arith) (omega arith) same;
-        })
-        (λ (no' : k.fault row ≡ 0 → ⊥). absurd (omega (arith, unlawful no')))
-        (cases_eq (k.fault row) 0)

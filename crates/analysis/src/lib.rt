@@ -2,9 +2,8 @@
 #![tactic(auto)]
 
 mod instants;
+mod level;
 mod requests;
 mod slacks;
 
-pub use instants::first_instant;
-pub use requests::{requested, work};
-pub use slacks::slack;
+pub use level::Level;

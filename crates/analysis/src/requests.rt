@@ -2,24 +2,28 @@
 ghost use Rattle.std.specs.Prelude.{◌≡◌, ◌+◌, ◌≤◌};
 ghost use Rattle.analysis.specs.Instants.{most_requested, requests, work_of};
 
-use loads::{LoadKind, Row};
+use super::level::Level;
+use loads::LoadKind;
+use supplies::Supply;
 
-/// The most work that the rows can ask for in `t` ticks, together.
-pub fn requested<K: LoadKind>(kind: &K, rows: &[Row], t: u64) -> u128
-    ensures is { result ≡ requests (K.means kind.now) rows.now t }
-    ensures small { result ≤ most_requested }
-{
-    let mut sum: u128 = 0;
-    for row in rows {
-        sum += u128::from(kind.request(row, t));
+impl<K: LoadKind, S: Supply> Level<'_, K, S> {
+    /// The most work that the rows above can ask for in `t` ticks, together.
+    pub fn requested(&self, t: u64) -> u128
+        ensures is { result ≡ requests (K.means self.now.kind.now) self.now.above.now t }
+        ensures small { result ≤ most_requested }
+    {
+        let mut sum: u128 = 0;
+        for row in self.above {
+            sum += u128::from(self.kind.request(row, t));
+        }
+        sum
     }
-    sum
-}
 
-/// A base amount of work, as one job, and all that the rows above it can ask for in `t` ticks.
-pub fn work<K: LoadKind>(kind: &K, above: &[Row], base: u64, t: u64) -> u128
-    ensures is { result ≡ work_of (K.means kind.now) above.now base t }
-    ensures small { result ≤ base + most_requested }
-{
-    u128::from(base) + requested(kind, above, t)
+    /// A base amount of work, as one job, and all that the rows above can ask for in `t` ticks.
+    pub fn work(&self, base: u64, t: u64) -> u128
+        ensures is { result ≡ work_of (K.means self.now.kind.now) self.now.above.now base t }
+        ensures small { result ≤ base + most_requested }
+    {
+        u128::from(base) + self.requested(t)
+    }
 }

@@ -1,5 +1,5 @@
 //! Figures of slack and first instants.
-use analysis::{first_instant, requested, slack, work};
+use analysis::Level;
 use loads::{Framed, Jittered, LoadKind, Plain, Row};
 use std::process::Abort;
 use std::test::Fail;
@@ -16,21 +16,27 @@ fn task<K: LoadKind, S: Supply>(
     supply: &S,
     above: &[Row],
     (longest, deadline): (u64, u64),
-    expected: (i128, Option<u64>),
+    (most, first): (i128, Option<u64>),
 ) {
-    let (most, first) = expected;
-    assert_eq!(rt; slack(kind, supply, above, longest, deadline), most);
-    assert_eq!(rt;
-        first_instant(kind, supply, above, longest, deadline),
-        first
-    );
+    let level = Level {
+        kind,
+        supply,
+        above,
+    };
+    assert_eq!(rt; level.slack(longest, deadline), most);
+    assert_eq!(rt; level.first_instant(longest, deadline), first);
 }
 
 #[test]
 fn on_the_whole_processor(rt: HostRuntime) {
     task(&rt, &Plain, &Whole, &[row(4, 10, 0)], (5, 11), (1, Some(9)));
-    assert_eq!(rt; requested(&Plain, &[row(4, 10, 0)], 11), 8);
-    assert_eq!(rt; work(&Plain, &[row(4, 10, 0)], 5, 11), 13);
+    let level = Level {
+        kind: &Plain,
+        supply: &Whole,
+        above: &[row(4, 10, 0)],
+    };
+    assert_eq!(rt; level.requested(11), 8);
+    assert_eq!(rt; level.work(5, 11), 13);
     task(&rt, &Plain, &Whole, &[], (2, 5), (3, Some(2)));
     task(
         &rt,

@@ -1,30 +1,43 @@
 //! Judges a small task set and prints what it finds, in plain words.
 #![tactic(auto)]
 
-use analysis::{first_instant, slack, work};
+use analysis::Level;
 use loads::{LoadKind, Plain, Row};
 use supplies::{Supply, Whole};
 
-/// The rows of two plain tasks, the most urgent first. The lower one is served, although its work at the deadline is more than is
-/// supplied there.
-const ROWS: [Row; 2] = [[4, 10, 0, 0, 0, 0, 0, 0], [5, 11, 0, 0, 0, 0, 0, 0]];
+/// A plain task: its row and its deadline.
+#[derive(Clone, Copy)]
+struct Task {
+    row: Row,
+    deadline: u64,
+}
 
-/// Their deadlines.
-const DEADLINES: [u64; 2] = [10, 11];
+/// Two tasks, the most urgent first. The lower one is served, although its work at the deadline is more than is supplied there.
+const TASKS: [Task; 2] = [
+    Task {
+        row: [4, 10, 0, 0, 0, 0, 0, 0],
+        deadline: 10,
+    },
+    Task {
+        row: [5, 11, 0, 0, 0, 0, 0, 0],
+        deadline: 11,
+    },
+];
 
-/// Prints what there is to say of the task with this row and deadline, below the rows above it.
-fn judge(rt: &impl Print, above: &[Row], row: &Row, deadline: u64) -> anyhow::Result<()> {
-    let position = above.len() as u128 + 1;
-    let longest = Plain.longest(row);
-    let separation = Plain.separation(row);
-    let slack = slack(&Plain, &Whole, above, longest, deadline);
-    let work = work(&Plain, above, longest, deadline);
-    let supplied = Whole.supplied(deadline);
+/// Prints what there is to say of a task at a level.
+fn judge(rt: &impl Print, level: &Level<Plain, Whole>, task: &Task) -> anyhow::Result<()> {
+    let Task { row, deadline } = *task;
+    let position = level.above.len() + 1;
+    let longest = level.kind.longest(&row);
+    let separation = level.kind.separation(&row);
+    let slack = level.slack(longest, deadline);
+    let work = level.work(longest, deadline);
+    let supplied = level.supply.supplied(deadline);
     println!(rt;
         "Position {position}: jobs of {longest} ticks, {separation} apart, deadline {deadline}."
     )?;
     println!(rt; "  Slack: {slack}.")?;
-    match first_instant(&Plain, &Whole, above, longest, deadline) {
+    match level.first_instant(longest, deadline) {
         Some(instant) => println!(rt; "  First instant: {instant}, so the task is served.")?,
         None => println!(rt; "  First instant: none, so the task is not served.")?,
     }
@@ -34,14 +47,22 @@ fn judge(rt: &impl Print, above: &[Row], row: &Row, deadline: u64) -> anyhow::Re
     Ok(())
 }
 
+/// Prints what there is to say of the two tasks.
 fn run(rt: &impl Print) -> anyhow::Result<()> {
     println!(rt; "Two plain tasks on the whole processor, the most urgent first.")?;
-    for index in 0..2 {
-        judge(rt, &ROWS[0..index], &ROWS[index], DEADLINES[index])?;
+    let rows = TASKS.map(|task| task.row);
+    for (above, task) in TASKS.iter().enumerate() {
+        let level = Level {
+            kind: &Plain,
+            supply: &Whole,
+            above: &rows[..above],
+        };
+        judge(rt, &level, task)?;
     }
     Ok(())
 }
 
+/// Judges the two tasks.
 fn main(rt: HostRuntime) -> anyhow::Result<()> {
     run(&rt)
 }
