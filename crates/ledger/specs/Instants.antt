@@ -1,5 +1,5 @@
 -- Slack, first instants and hold times of a ledger, and the tables that leave every task an instant.
-use Rattle.std.specs.Prelude.{ℕ, ◌+◌, ◌-◌, ◌≤◌, cond, List, length, take, ℤ, Some, None, Option, nat_lt}
+use Rattle.std.specs.Prelude.{ℕ, ◌+◌, ◌-◌, ◌≤◌, cond, List, length, take, ℤ, Option, nat_lt, unwrap_or}
 use Rattle.loads.specs.Kind.{Kind}
 use Rattle.supplies.specs.Supplied.{last_instant}
 use Rattle.analysis.specs.Instants.{requests, work_of, slack_of, first_covered}
@@ -9,11 +9,6 @@ use Rattle.ledger.specs.Ceilings.{ceiling, blocking, most, Fits}
 -- the rows of the positions above i
 abbrev pub above : Ledger → ℕ → List (List ℕ)
 above l i = take (i - 1) (rows l)
-
--- an instant, or 0 where there is none
-abbrev pub or_0 : Option ℕ → ℕ
-or_0 (Some t) = t
-or_0 None = 0
 
 module _ (k : Kind) where
   -- the longest job of position i
@@ -39,9 +34,13 @@ module _ (k : Kind) (s : ℕ → ℕ) where
   abbrev pub slack : Ledger → ℕ → ℤ
   slack l i = slack_of k s (above l i) (job k l i) (task l i).deadline
 
-  -- the first instant at which the supply covers a job of position i and a blocking of b, 0 where there is none by the deadline
+  -- the first instant at which the supply covers a job of position i and a blocking of b, none where there is none by the deadline
+  abbrev pub covered_with : Ledger → ℕ → ℕ → Option ℕ
+  covered_with l i b = first_covered k s (above l i) (job k l i + b) (task l i).deadline
+
+  -- the same, 0 where there is none
   abbrev pub first_with : Ledger → ℕ → ℕ → ℕ
-  first_with l i b = or_0 (first_covered k s (above l i) (job k l i + b) (task l i).deadline)
+  first_with l i b = unwrap_or (covered_with l i b) 0
 
   -- the first instant of position i, 0 where it has none
   abbrev pub first_instant : Ledger → List ℕ → ℕ → ℕ
@@ -54,7 +53,7 @@ module _ (k : Kind) (s : ℕ → ℕ) where
 
   -- the first instant at which a section of n ticks on resource j is through, 0 where there is none: only positions above the ceiling delay it
   abbrev pub through_by : Ledger → List ℕ → ℕ → ℕ → ℕ
-  through_by l c j n = or_0 (first_covered k s (above l (ceiling c j)) n last_instant)
+  through_by l c j n = unwrap_or (first_covered k s (above l (ceiling c j)) n last_instant) 0
 
   -- how long a task may hold the resource, 0 where it does not use it
   abbrev pub held_for : Ledger → List ℕ → ℕ → Task → ℕ

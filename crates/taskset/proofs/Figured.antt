@@ -1,7 +1,9 @@
 -- The figures of a task and of a resource, from what is read by their indices.
-use Rattle.std.proofs.Common.{◌≡◌, ℕ, ◌+◌, ◌-◌, ◌^◌, ◌<◌, ◌≤◌, min, ltb, List, length, get_or, take, ℤ, pos, ◌≤ℤ◌, None, Ok, sym, ap, ◌∙◌, subst, ⊎_elim, arith}
+use Rattle.std.proofs.Common.{◌≡◌, ℕ, ◌+◌, ◌-◌, ◌^◌, ◌<◌, ◌≤◌, min, ltb, List, length, get_or, take, ℤ, pos, ◌≤ℤ◌, None, Ok, Option, unwrap_or, sym, ap, ◌∙◌, subst, ⊎_elim, arith}
 use Rattle.std.proofs.lemmas.Bool.{cases_lt, lt-leb, lt-ltb, cond-true}
 use Rattle.loads.specs.Kind.{Kind}
+use Rattle.loads.specs.declared.kind.LoadKind.{Ghosts as Kinds}
+use Rattle.supplies.specs.declared.supply.Supply.{Ghosts as Supplies}
 use Rattle.supplies.specs.Supplied.{last_instant}
 use Rattle.supplies.specs.Supplied.{Laws as SupplyLaws}
 use Rattle.analysis.specs.Instants.{work_of, covered, first_covered}
@@ -10,12 +12,16 @@ use Rattle.analysis.proofs.Supplying.{supply_bounded}
 use Rattle.ledger.specs.declared.edit.Edit.{Edit}
 use Rattle.ledger.specs.Ceilings.{natural, ceiling, blocking}
 use Rattle.ledger.specs.History.{Answer, After}
-use Rattle.ledger.specs.Instants.{or_0, slack, first_instant, FirstInstant, through_by, held_for, hold}
+use Rattle.ledger.specs.Instants.{job, slack, covered_with, first_with, first_instant, FirstInstant, through_by, held_for, hold}
 use Rattle.ledger.specs.Ledger.{Task, Ledger, rows, section}
 use Rattle.ledger.proofs.Histories.{first_instant_is, slack_bears}
 use Rattle.ledger.proofs.Holds.{held_none}
 use Rattle.table.proofs.Users.{section_is}
-use Rattle.taskset.specs.Figures.{OfTask, OfResource, ServedTask, ServedResource}
+use Rattle.table.specs.Tables.{ledger, held}
+use Rattle.taskset.specs.declared.set.TaskSet.{TaskSet}
+use Rattle.taskset.specs.declared.task.TaskAt.{TaskAt}
+use Rattle.taskset.specs.Figures.{At, OfTask, OfResource, ServedTask, ServedResource}
+use Rattle.taskset.proofs.Reckoned.{ap₃}
 
 -- ---- sums that would be too large
 
@@ -45,6 +51,22 @@ module _ (k : Kind) (s : ℕ → ℕ) (l : Ledger) (c : List ℕ) where
       let high = h.at.1 in
       (subst (λ n. pos n ≤ℤ x.1) (sym h.blocking) (subst (λ z. pos (blocking l c p) ≤ℤ z) (sym h.slack) (slack_bears st p low high)), subst (λ t. FirstInstant k s l c p t) (sym h.first) (first_instant_is st p low high))
 
+-- what a set answers about the task at a position, from what the task says itself
+module _ {K S : Type 0} (kinds : Kinds K) (supplies : Supplies S) (set : TaskSet K S kinds supplies) where
+  -- its longest job
+  pub job_at : (p : ℕ) (x : TaskAt K S) → At kinds supplies set p (Ok x) → job (kinds.means x.kind.now) (ledger x.table.now) (x.at + 1) ≡ job (kinds.means set.kind) (ledger set.table) p
+  job_at p x (is, kind, supply, table) = ap₃ (λ k u i. job (kinds.means k) (ledger u) i) kind table (sym is)
+
+  -- its figures
+  pub figures_at : (p b first : ℕ) (z : ℤ) (t : Option ℕ) (x : TaskAt K S) → At kinds supplies set p (Ok x) → b ≡ blocking (ledger set.table) (held set.table) (x.at + 1) → z ≡ slack (kinds.means x.kind.now) (supplies.gives x.supply.now) (ledger x.table.now) (x.at + 1) → t ≡ covered_with (kinds.means x.kind.now) (supplies.gives x.supply.now) (ledger x.table.now) (x.at + 1) b → first ≡ unwrap_or t 0 → OfTask (kinds.means set.kind) (supplies.gives set.supply) (ledger set.table) (held set.table) p (Ok (b, z, first))
+  figures_at p b first z t x (is, kind, supply, table) bs zs ts same =
+      task_figures (kinds.means set.kind) (supplies.gives set.supply) (ledger set.table) (held set.table) p x.at b z first is
+      (subst (λ u. x.at < length (ledger u).tasks) table x.there)
+      bs
+      (zs ∙ ap₃ (λ k s u. slack (kinds.means k) (supplies.gives s) (ledger u) (x.at + 1)) kind supply table)
+      (same ∙ ap (λ o. unwrap_or o 0) (ts ∙ ap₃ (λ k s u. covered_with (kinds.means k) (supplies.gives s) (ledger u) (x.at + 1) b) kind supply table)
+      ∙ ap (first_with (kinds.means set.kind) (supplies.gives set.supply) (ledger set.table) (x.at + 1)) bs)
+
 -- ---- a resource
 
 positive : (n : ℕ) → (n ≡ 0 → ⊥) → 0 < n
@@ -59,10 +81,10 @@ module _ (k : Kind) (s : ℕ → ℕ) (l : Ledger) (c : List ℕ) where
     pub held_unused : length ≡ 0 → 0 ≡ held_for k s l c (i + 1) x
     held_unused none = sym (held_none k s l c (i + 1) x (here ∙ none))
 
-    pub held_used : (m t : ℕ) → (length ≡ 0 → ⊥) → m ≡ ceiling c (i + 1) - 1 → t ≡ or_0 (first_covered k s (take m (rows l)) length last_instant) → t ≡ held_for k s l c (i + 1) x
+    pub held_used : (m t : ℕ) → (length ≡ 0 → ⊥) → m ≡ ceiling c (i + 1) - 1 → t ≡ unwrap_or (first_covered k s (take m (rows l)) length last_instant) 0 → t ≡ held_for k s l c (i + 1) x
     held_used m t used high told =
         told
-        ∙ ap (λ n. or_0 (first_covered k s (take n (rows l)) length last_instant)) high
+        ∙ ap (λ n. unwrap_or (first_covered k s (take n (rows l)) length last_instant) 0) high
         ∙ ap (λ n. through_by k s l c (i + 1) n) (sym here)
         ∙ sym (cond-true (ltb 0 (section x (i + 1))) (through_by k s l c (i + 1) (section x (i + 1))) 0 (lt-ltb 0 (section x (i + 1)) (subst (λ n. 0 < n) (sym here) (positive length used))))
 

@@ -1,30 +1,22 @@
 -- Slacks and first instants from what is read by the index of a task.
-use Rattle.std.proofs.Common.{◌≡◌, ℕ, ◌+◌, ◌-◌, ◌<◌, List, [], length, get_or, take, ℤ, pos, sym, ap, ◌∙◌, add-sub_cancel, arith}
-use Rattle.std.proofs.lemmas.List.{get_or-map}
+use Rattle.std.proofs.Common.{◌≡◌, ℕ, ◌+◌, ◌-◌, List, length, take, ℤ, pos, sym, ap, ◌∙◌, add-sub_cancel, arith}
 use Rattle.loads.specs.Kind.{Kind}
-use Rattle.ledger.specs.Instants.{above, job, slack}
-use Rattle.ledger.specs.Ledger.{Ledger, task, no_task, rows}
+use Rattle.ledger.specs.Instants.{above, slack}
+use Rattle.ledger.specs.Ledger.{Ledger, rows}
 use Rattle.ledger.specs.Settled.{slack_at, lowest_table}
 use Rattle.ledger.proofs.Lowest.{lowest_table_same}
 use Rattle.table.specs.declared.table.Table.{Table}
-use Rattle.table.specs.Tables.{ledger, held, deadlines}
+use Rattle.table.specs.Tables.{ledger, held}
 use Rattle.table.proofs.Running.{Filled}
 use Rattle.taskset.specs.Reckoning.{Slacks, Settled}
 
--- the row and the deadline of a task, by its index
-module _ (l : Ledger) (i : ℕ) (here : i < length l.tasks) where
-  pub row_at : get_or (rows l) i [] ≡ (task l (i + 1)).row
-  row_at = get_or-map (λ x. x.row) l.tasks i no_task [] here ∙ ap (λ n. (get_or l.tasks n no_task).row) (sym (add-sub_cancel i 1))
+-- what stands above a task, by its index
+pub above_at : (l : Ledger) (i : ℕ) → take i (rows l) ≡ above l (i + 1)
+above_at l i = ap (λ n. take n (rows l)) (sym (add-sub_cancel i 1))
 
-  deadline_at : get_or (deadlines l) i 0 ≡ (task l (i + 1)).deadline
-  deadline_at = get_or-map (λ x. x.deadline) l.tasks i no_task 0 here ∙ ap (λ n. (get_or l.tasks n no_task).deadline) (sym (add-sub_cancel i 1))
-
-  -- whatever depends on the rows above a task, its longest job and its deadline
-  pub by_index : {X : Type 0} (k : Kind) (f : List (List ℕ) → ℕ → ℕ → X) → f (take i (rows l)) (k.longest (get_or (rows l) i [])) (get_or (deadlines l) i 0) ≡ f (above l (i + 1)) (job k l (i + 1)) (task l (i + 1)).deadline
-  by_index k f =
-      ap (λ n. f (take n (rows l)) (k.longest (get_or (rows l) i [])) (get_or (deadlines l) i 0)) (sym (add-sub_cancel i 1))
-      ∙ ap (λ row. f (above l (i + 1)) (k.longest row) (get_or (deadlines l) i 0)) row_at
-      ∙ ap (λ d. f (above l (i + 1)) (job k l (i + 1)) d) deadline_at
+-- equal arguments give equal values
+pub ap₃ : {A B C X : Type 0} (f : A → B → C → X) {a a' : A} {b b' : B} {c c' : C} → a ≡ a' → b ≡ b' → c ≡ c' → f a b c ≡ f a' b' c'
+ap₃ f p q r = λ i. f (p i) (q i) (r i)
 
 module _ (k : Kind) (s : ℕ → ℕ) where
   -- the first n positions have their slacks

@@ -1,17 +1,17 @@
 -- What the calls on a set answer of its tasks and resources.
-use Rattle.std.specs.Prelude.{◌≡◌, ℕ, ◌<◌, ◌≤◌, List, take, ℤ, pos, ◌≤ℤ◌, Ok, Err, Result}
+use Rattle.std.specs.Prelude.{◌≡◌, ℕ, ◌+◌, ◌<◌, ◌≤◌, List, ℤ, pos, ◌≤ℤ◌, Ok, Err, Result}
 use Rattle.loads.specs.Kind.{Kind}
 use Rattle.loads.specs.declared.kind.LoadKind.{Ghosts as Kinds}
 use Rattle.supplies.specs.declared.supply.Supply.{Ghosts as Supplies}
-use Rattle.analysis.specs.Instants.{first_covered}
 use Rattle.ledger.specs.declared.fault.SetFault.{SetFault}
 use Rattle.ledger.specs.declared.fault.SetFault.TheVariants.{Position, Resource}
 use Rattle.ledger.specs.Ceilings.{natural, ceiling, blocking}
-use Rattle.ledger.specs.Instants.{or_0, slack, first_with, first_instant, FirstInstant, held_for, hold, Held}
-use Rattle.ledger.specs.Ledger.{Task, Ledger, task, rows, section}
+use Rattle.ledger.specs.Instants.{slack, first_instant, FirstInstant, hold, Held}
+use Rattle.ledger.specs.Ledger.{Ledger, task, section}
 use Rattle.ledger.specs.Questions.{AtTask, AtResource}
 use Rattle.table.specs.Tables.{ledger, held}
 use Rattle.taskset.specs.declared.set.TaskSet.{TaskSet}
+use Rattle.taskset.specs.declared.task.TaskAt.{TaskAt}
 
 -- ---- by a ledger and a table of ceilings
 
@@ -80,20 +80,11 @@ module _ {K S : Type 0} (kinds : Kinds K) (supplies : Supplies S) (set : TaskSet
     pub is : OfResource its_kind its_supply its_ledger its_ceilings j r
     pub served : ServedResource its_kind its_supply its_ledger its_ceilings j r
 
-  -- ---- what the steps of these calls answer
-
-  -- the first instant up to a limit at which a base amount and all that the first m tasks ask for are covered, 0 where there is none
-  abbrev pub covered_by : ℕ → ℕ → ℕ → ℕ
-  covered_by m base limit = or_0 (first_covered its_kind its_supply (take m (rows its_ledger)) base limit)
-
-  -- the first instant of a position with a blocking
-  abbrev pub first_at : ℕ → ℕ → ℕ
-  first_at i b = first_with its_kind its_supply its_ledger i b
-
-  -- how long a task may hold a resource
-  abbrev pub held_by : ℕ → Task → ℕ
-  held_by j x = held_for its_kind its_supply its_ledger its_ceilings j x
-
   -- the hold time of a resource
   abbrev pub hold_of : ℕ → ℕ
   hold_of j = hold its_kind its_supply its_ledger its_ceilings j
+
+  -- the task at a position, with the set's kind, supply and table; refused where there is none
+  abbrev pub At : ℕ → Result (TaskAt K S) SetFault → Type 0
+  At p (Ok x) = (p ≡ x.at + 1) × (x.kind.now ≡ set.kind) × (x.supply.now ≡ set.supply) × (x.table.now ≡ set.table)
+  At p (Err f) = (AtTask its_ledger p → ⊥) × (f ≡ Position)

@@ -3,18 +3,12 @@ use Rattle.std.specs.Prelude.{◌≡◌, ℕ, ◌≤◌, List, length, ℤ, Ok, 
 use Rattle.loads.specs.Kind.{Kind}
 use Rattle.ledger.specs.declared.fault.SetFault.{SetFault}
 use Rattle.ledger.specs.declared.fault.SetFault.TheVariants.{Unserved}
-use Rattle.ledger.specs.Instants.{job, slack, Servable}
+use Rattle.ledger.specs.Instants.{slack, Servable}
 use Rattle.ledger.specs.Ledger.{Ledger}
-use Rattle.ledger.specs.Questions.{AtTask}
 use Rattle.ledger.specs.Settled.{slack_at, lowest_table}
 use Rattle.ledger.specs.Sound.{Sound}
 use Rattle.table.specs.declared.table.Table.{Table}
 use Rattle.table.specs.Tables.{ledger, held}
-
--- the longest job of the task at a position, 0 where there is none
-pub record Job (k : Kind) (l : Ledger) (p r : ℕ) : Type 0 where
-  pub there : AtTask l p → r ≡ job k l p
-  pub absent : (AtTask l p → ⊥) → r ≡ 0
 
 module _ (k : Kind) (s : ℕ → ℕ) where
   -- the slacks of a ledger's tasks, by their indices

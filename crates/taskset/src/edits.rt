@@ -5,7 +5,7 @@ ghost use Rattle.ledger.specs.declared.edit.Edit.TheVariants.{Mark as Marked};
 ghost use Rattle.taskset.specs.Reckoning.{Settled, Served};
 ghost use Rattle.taskset.specs.Sets.{Edited};
 
-use crate::reckoning::{longest_job, slacks};
+use crate::reckoning::slacks;
 use crate::set::TaskSet;
 use ledger::{Edit, Mark, SetFault};
 use loads::{LoadKind, Row};
@@ -62,9 +62,10 @@ impl<K: LoadKind, S: Supply> TaskSet<K, S> {
     pub fn section(&mut self, position: u64, resource: u64, length: u64) -> Result<(), SetFault>
         ensures { Edited K.LoadKind S.Supply (Section position resource length) result self.old self.new }
     {
+        let longest = self.at(position)?.longest();
         let mut edited = self.table;
         edited.section(position, resource, length)?;
-        if length > longest_job(&self.kind, &self.table, position) {
+        if length > longest {
             return Err(SetFault::Length);
         }
         self.table = self.served(edited)?;

@@ -6,6 +6,7 @@ mod edits;
 mod histories;
 mod reckoning;
 mod set;
+mod task;
 
 pub use histories::replay;
 pub use set::TaskSet;

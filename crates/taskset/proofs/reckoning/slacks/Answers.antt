@@ -11,8 +11,8 @@ pub loop-at-preserved : goal.loop-at-preserved
 loop-at-preserved g c =
     let k = g.K.LoadKind.means c.args.kind.now in
     let s = g.S.Supply.gives c.args.supply.now in
-    let fits : SFits w64 c.slack_of.result = search rules in
-    filled_more 32 (pos 0) (slack k s (ledger c.args.table.now)) c.loop-at.at (to_z w64 (of_z w64 c.slack_of.result)) c.loop-at.slacks (omega arith) (to_z-of_z w64 c.slack_of.result fits ∙ c.slack_of.ensures) c.loop-at.invariant
+    let fits : SFits w64 c.slack.result = search rules in
+    filled_more 32 (pos 0) (slack k s (ledger c.args.table.now)) c.loop-at.at (to_z w64 (of_z w64 c.slack.result)) c.loop-at.slacks (omega arith) (to_z-of_z w64 c.slack.result fits ∙ c.slack.ensures) c.loop-at.invariant
 
 pub returns : goal.returns
 returns g c =
