@@ -3,6 +3,7 @@
 
 use ledger::{Edit, Mark, SetFault};
 use loads::{LoadKind, Plain, Row};
+use std::fmt;
 use supplies::{Supply, Whole};
 use taskset::{TaskSet, replay};
 
@@ -40,47 +41,53 @@ fn example() -> [Edit; 8] {
     ]
 }
 
-/// Prints an edit in plain words.
-fn print_edit(rt: &impl Print, edit: &Edit) -> anyhow::Result<()> {
-    match edit {
-        Edit::Insert {
-            position,
-            row,
-            deadline,
-        } => {
-            let [job, period, ..] = row;
-            print!(rt;
+/// An edit in plain words.
+#[derive(Clone, Copy)]
+struct Words<'a>(&'a Edit);
+
+impl fmt::Display for Words<'_> {
+    fn fmt<W: fmt::Write>(&self, f: &mut fmt::Formatter<W>) -> fmt::Result {
+        match self.0 {
+            Edit::Insert {
+                position,
+                row: [job, period, ..],
+                deadline,
+            } => write!(
+                f,
                 "Insert at {position}: jobs of {job} ticks, {period} apart, deadline {deadline}"
-            )?
+            ),
+            Edit::Withdraw { position } => write!(f, "Withdraw {position}"),
+            Edit::Section {
+                position,
+                resource,
+                length,
+            } => write!(
+                f,
+                "Section of task {position} on resource {resource}, length {length}"
+            ),
+            Edit::Mark { resource, mark } => write!(
+                f,
+                "Mark resource {resource} {}",
+                match mark {
+                    Mark::Lowered => "lowered",
+                    Mark::Kept => "kept",
+                }
+            ),
         }
-        Edit::Withdraw { position } => print!(rt; "Withdraw {position}")?,
-        Edit::Section {
-            position,
-            resource,
-            length,
-        } => print!(rt; "Section of task {position} on resource {resource}, length {length}")?,
-        Edit::Mark {
-            resource,
-            mark: Mark::Lowered,
-        } => print!(rt; "Mark resource {resource} lowered")?,
-        Edit::Mark {
-            resource,
-            mark: Mark::Kept,
-        } => print!(rt; "Mark resource {resource} kept")?,
     }
-    Ok(())
 }
 
-/// Prints what an edit was answered.
-fn print_answer(rt: &impl Print, answer: &Result<(), SetFault>) -> anyhow::Result<()> {
-    match answer {
-        Ok(()) => println!(rt; ": taken.")?,
-        Err(fault) => {
-            let number = fault.number();
-            println!(rt; ": refused with {number}.")?
+/// What an edit was answered, in plain words.
+#[derive(Clone, Copy)]
+struct Answered<'a>(&'a Result<(), SetFault>);
+
+impl fmt::Display for Answered<'_> {
+    fn fmt<W: fmt::Write>(&self, f: &mut fmt::Formatter<W>) -> fmt::Result {
+        match self.0 {
+            Ok(()) => f.write_str("taken"),
+            Err(fault) => write!(f, "refused with {}", fault.number()),
         }
     }
-    Ok(())
 }
 
 /// Prints the figures of every task and of every resource that is in use.
@@ -113,8 +120,7 @@ fn run(rt: &impl Print) -> anyhow::Result<()> {
     let mut answers = [Ok(()); 8];
     if let Some(set) = replay(Plain, Whole, &edits, &mut answers) {
         for (edit, answer) in edits.iter().zip(answers.iter()) {
-            print_edit(rt, edit)?;
-            print_answer(rt, answer)?;
+            println!(rt; "{}: {}.", Words(edit), Answered(answer))?;
         }
         print_figures(rt, &set)?;
     }
