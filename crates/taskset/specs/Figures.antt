@@ -6,8 +6,8 @@ use Rattle.supplies.specs.declared.supply.Supply.{Ghosts as Supplies}
 use Rattle.ledger.specs.declared.fault.SetFault.{SetFault}
 use Rattle.ledger.specs.declared.fault.SetFault.TheVariants.{Position, Resource}
 use Rattle.ledger.specs.Ceilings.{natural, ceiling, blocking}
-use Rattle.ledger.specs.Instants.{slack, first_instant, FirstInstant, hold, Held}
-use Rattle.ledger.specs.Ledger.{Ledger, task, section}
+use Rattle.ledger.specs.Instants.{slack, first_instant, FirstInstant, held_for, hold, Held}
+use Rattle.ledger.specs.Ledger.{Task, Ledger, task, section}
 use Rattle.ledger.specs.Questions.{AtTask, AtResource}
 use Rattle.table.specs.Tables.{ledger, held}
 use Rattle.taskset.specs.declared.set.TaskSet.{TaskSet}
@@ -79,6 +79,10 @@ module _ {K S : Type 0} (kinds : Kinds K) (supplies : Supplies S) (set : TaskSet
   pub record ResourceAnswer (j : ℕ) (r : Result (ℕ × ℕ × ℕ) SetFault) : Type 0 where
     pub is : OfResource its_kind its_supply its_ledger its_ceilings j r
     pub served : ServedResource its_kind its_supply its_ledger its_ceilings j r
+
+  -- how long a task may hold a resource
+  abbrev pub held_by : ℕ → Task → ℕ
+  held_by j x = held_for its_kind its_supply its_ledger its_ceilings j x
 
   -- the hold time of a resource
   abbrev pub hold_of : ℕ → ℕ

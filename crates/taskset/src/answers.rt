@@ -1,7 +1,8 @@
 //! The figures of a task set: what is to be said of each task and each resource.
-ghost use Rattle.std.specs.Prelude.{◌≡◌, ◌+◌, length};
+ghost use Rattle.std.specs.Prelude.{◌≡◌, ◌+◌, ◌<◌, length, slice_index_or};
+ghost use Rattle.ledger.specs.Ledger.{no_task};
 ghost use Rattle.table.specs.Tables.{ledger};
-ghost use Rattle.taskset.specs.Figures.{At, TaskAnswer, ResourceAnswer, hold_of};
+ghost use Rattle.taskset.specs.Figures.{At, TaskAnswer, ResourceAnswer, held_by, hold_of};
 
 use crate::set::TaskSet;
 use crate::task::TaskAt;
@@ -41,21 +42,28 @@ impl<K: LoadKind, S: Supply> TaskSet<K, S> {
         Ok((blocking, task.slack(), first))
     }
 
+    /// How long the task with an index may hold a resource, by its index; 0 where it does not use it.
+    fn held_for(&self, at: usize, j: usize) -> u64
+        requires { at < length (ledger self.now.table).tasks }
+        ensures { result ≡ held_by K.LoadKind S.Supply self.now (j + 1) (slice_index_or (ledger self.now.table).tasks at no_task) }
+    {
+        let task = TaskAt {
+            kind: &self.kind,
+            supply: &self.supply,
+            table: &self.table,
+            at,
+        };
+        task.held_for(j)
+    }
+
     /// The hold time of a resource by its index.
     fn hold(&self, j: usize) -> u64
         ensures { result ≡ hold_of K.LoadKind S.Supply self.now (j + 1) }
     {
-        let mut longest: u64 = 0;
-        for at in 0..self.table.count() {
-            let task = TaskAt {
-                kind: &self.kind,
-                supply: &self.supply,
-                table: &self.table,
-                at,
-            };
-            longest = longest.max(task.held_for(j));
-        }
-        longest
+        (0..self.table.count())
+            .map(|at| self.held_for(at, j))
+            .max()
+            .unwrap_or(0)
     }
 
     /// What there is to say of a resource: its natural ceiling, its held ceiling and its hold time.

@@ -20,6 +20,7 @@ pub fn replay<K: LoadKind + Drop, S: Supply + Drop>(
         return None;
     }
     let mut set = TaskSet::new(kind, supply);
+    // by index: of what is written through `iter_mut` a proof knows nothing afterwards
     for (i, edit) in edits.iter().enumerate() {
         answers[i] = set.edit(*edit);
     }

@@ -12,6 +12,7 @@ pub(crate) fn slacks<K: LoadKind, S: Supply>(kind: &K, supply: &S, table: &Table
     ensures { Slacks (K.means kind.now) (S.gives supply.now) (ledger table.now) result }
 {
     let mut slacks: [i64; 32] = [0; 32];
+    // by index: the first places of a fixed array are filled, one for each task
     for at in 0..table.count() {
         let task = TaskAt {
             kind,

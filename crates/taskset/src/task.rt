@@ -54,6 +54,7 @@ impl<'a, K: LoadKind, S: Supply> TaskAt<'a, K, S> {
     pub(crate) fn slack(&self) -> i64
         ensures { result ≡ slack (K.means self.now.kind.now) (S.gives self.now.supply.now) (ledger self.now.table.now) (self.now.at + 1) }
     {
+        // `as`: the slack of one of at most 32 tasks is proved to fit, where `try_from` would have to be asked
         self.level(self.at).slack(self.longest(), self.deadline()) as i64
     }
 
@@ -73,6 +74,7 @@ impl<'a, K: LoadKind, S: Supply> TaskAt<'a, K, S> {
         if length == 0 {
             return 0;
         }
+        // `as`: Rust has no `From` of a `u64` for a `usize`
         let above = (self.table.ceiling(j) as usize).saturating_sub(1);
         self.level(above)
             .first_instant(length, LAST_INSTANT)
