@@ -1,5 +1,5 @@
 -- Ceilings of resources, tables of them that fit, and the blocking that they bring.
-use Rattle.std.specs.Prelude.{◌≡◌, ℕ, zero, suc, ◌-◌, ◌≤◌, max, Bool, cond, ◌&&◌, List, [], ◌∷◌, map, length, drop, nat_le, nat_lt, slice_index}
+use Rattle.std.specs.Prelude.{◌≡◌, ℕ, zero, suc, ◌-◌, ◌≤◌, max, Bool, if◌then◌else◌, ◌&&◌, List, [], ◌∷◌, map, length, drop, nat_le, nat_lt, slice_index}
 use Rattle.ledger.specs.declared.edit.Mark.{Mark}
 use Rattle.ledger.specs.declared.edit.Mark.TheVariants.{Kept, Lowered}
 use Rattle.ledger.specs.Ledger.{Task, Ledger, section, mark}
@@ -21,7 +21,7 @@ one_later (suc n) = suc (suc n)
 -- the natural ceiling: the smallest position that uses the resource, 0 where none does
 abbrev pub natural : List Task → ℕ → ℕ
 natural [] j = 0
-natural (x ∷ xs) j = cond (nat_lt 0 (section x j)) 1 (one_later (natural xs j))
+natural (x ∷ xs) j = if nat_lt 0 (section x j) then 1 else one_later (natural xs j)
 
 -- the ceiling that a table has for a resource
 abbrev pub ceiling : List ℕ → ℕ → ℕ
@@ -48,7 +48,7 @@ blocks c i j = nat_le 1 (ceiling c j) && nat_le (ceiling c j) i
 
 -- the longest section of a task that can block position i
 unfoldable pub obstacle : List ℕ → ℕ → Task → ℕ
-obstacle c i x = most (λ j. cond (blocks c i j) (section x j) 0) resources
+obstacle c i x = most (λ j. if blocks c i j then section x j else 0) resources
 
 -- the blocking: the longest section of a task below position i that can block it
 abbrev pub blocking : Ledger → List ℕ → ℕ → ℕ

@@ -1,5 +1,5 @@
 -- Slack, first instants and hold times of a ledger, and the tables that leave every task an instant.
-use Rattle.std.specs.Prelude.{ℕ, ◌+◌, ◌-◌, ◌≤◌, cond, List, length, take, ℤ, Option, nat_lt, unwrap_or}
+use Rattle.std.specs.Prelude.{ℕ, ◌+◌, ◌-◌, ◌≤◌, if◌then◌else◌, List, length, take, ℤ, Option, nat_lt, unwrap_or}
 use Rattle.loads.specs.Kind.{Kind}
 use Rattle.supplies.specs.Supplied.{last_instant}
 use Rattle.analysis.specs.Instants.{requests, work_of, slack_of, first_covered}
@@ -57,7 +57,7 @@ module _ (k : Kind) (s : ℕ → ℕ) where
 
   -- how long a task may hold the resource, 0 where it does not use it
   abbrev pub held_for : Ledger → List ℕ → ℕ → Task → ℕ
-  held_for l c j x = cond (nat_lt 0 (section x j)) (through_by l c j (section x j)) 0
+  held_for l c j x = if nat_lt 0 (section x j) then through_by l c j (section x j) else 0
 
   -- the hold time of a resource: the longest that a task may hold it
   abbrev pub hold : Ledger → List ℕ → ℕ → ℕ

@@ -1,6 +1,6 @@
 -- The framed kind (the multiframe model): jobs at least T ticks apart, whose lengths go round a cycle of k frames.
 -- Entry 1 is T, entry 2 is k, the next k are the frames, the others are 0.
-use Rattle.std.specs.Prelude.{ℕ, zero, suc, ◌+◌, ◌%◌, max, Bool, cond, List, ◌==◌, nat_lt, slice_index}
+use Rattle.std.specs.Prelude.{ℕ, zero, suc, ◌+◌, ◌%◌, max, Bool, if◌then◌else◌, List, ◌==◌, nat_lt, slice_index}
 use Rattle.numbers.specs.Ranges.{from_to}
 use Rattle.numbers.specs.Rounding.{rounded_up}
 use Rattle.loads.specs.Kind.{Kind, guarded, largest_entry}
@@ -16,7 +16,10 @@ frame_count row = slice_index row 1
 
 -- the entry with index i may stand in a framed row: the separation and the frames, the count of frames, or nothing
 abbrev pub framed_entry : List ℕ → ℕ → Bool
-framed_entry row i = cond (i == 1) (from_to 1 most_frames (slice_index row i)) (cond (nat_lt i (2 + frame_count row)) (from_to 1 largest_entry (slice_index row i)) (slice_index row i == 0))
+framed_entry row i =
+    if i == 1 then from_to 1 most_frames (slice_index row i)
+    else (if nat_lt i (2 + frame_count row) then from_to 1 largest_entry (slice_index row i)
+    else (slice_index row i == 0))
 
 -- frame number j, from 0, of the endlessly repeated cycle
 abbrev pub frame : List ℕ → ℕ → ℕ

@@ -1,5 +1,5 @@
 -- What a load kind means: for each row of eight numbers the entry at fault, or the work that the row stands for.
-use Rattle.std.specs.Prelude.{◌≡◌, ℕ, ◌<◌, ◌≤◌, min, cond, ◌≢◌, List, ◌==◌, slice_index}
+use Rattle.std.specs.Prelude.{◌≡◌, ℕ, ◌<◌, ◌≤◌, min, if◌then◌else◌, ◌≢◌, List, ◌==◌, slice_index}
 
 -- requests are counted up to this instant: a later one counts as this
 abbrev pub horizon : ℕ
@@ -58,7 +58,7 @@ pub record Lasts (k : Kind) (row : List ℕ) (t u : ℕ) : Type 0 where
 
 -- x where the row is lawful, 0 where it is not
 abbrev pub if_lawful : Kind → List ℕ → ℕ → ℕ
-if_lawful k row x = cond (k.fault row == 0) x 0
+if_lawful k row x = if k.fault row == 0 then x else 0
 
 -- a kind from its formulas: they hold for lawful rows up to the horizon; an unlawful row stands for no work
 abbrev pub guarded : Kind → Kind

@@ -1,10 +1,10 @@
 -- Rows that are judged entry by entry.
-use Rattle.std.specs.Prelude.{◌≡◌, ℕ, zero, suc, ◌≤◌, Bool, cond, Ok, Err, Result}
+use Rattle.std.specs.Prelude.{◌≡◌, ℕ, zero, suc, ◌≤◌, Bool, if◌then◌else◌, Ok, Err, Result}
 use Rattle.loads.specs.declared.rows.RowFault.{RowFault}
 
 -- m, the fault found so far; where that is 0, the number of the entry with index i unless it passes
 abbrev pub or_entry : ℕ → Bool → ℕ → ℕ
-or_entry zero passes i = cond passes 0 (suc i)
+or_entry zero passes i = if passes then 0 else suc i
 or_entry (suc m) passes i = suc m
 
 -- the number, from 1, of the lowest of the first n entries that does not pass the test, 0 where all pass

@@ -1,16 +1,17 @@
 //! The framed kind (the multiframe model): jobs at least T ticks apart, whose lengths go round a cycle of frames.
 ghost use Rattle.std.specs.Prelude.{◌≡◌, ◌*◌, ◌≤◌};
 ghost use Rattle.loads.specs.Codes.{framed_code};
-ghost use Rattle.loads.specs.Framed.{busiest, framed, framed_entry, framed_formulas, frames, most_frames};
-ghost use Rattle.loads.specs.Kind.{Until, horizon, largest_entry};
+ghost use Rattle.loads.specs.Framed.{busiest, frame, frame_count, framed_entry, framed_formulas, frames, most_frames};
+ghost use Rattle.loads.specs.Kind.{horizon, largest_entry};
 ghost use Rattle.loads.specs.LawProofs.FramedLaws.{framed_laws};
 ghost use Rattle.std.proofs.Common.{rules};
 
-use super::kind::{ListedKind, LoadKind};
-use super::periods::{begun, last_before_next};
-use super::rows::{EntryRule, LARGEST_ENTRY, Row, RowFault, judge};
+use super::guarded::ByFormulas;
+use super::kind::ListedKind;
+use super::periods::last_before_next;
+use super::rows::{EntryRule, LARGEST_ENTRY, Row, RowFault, judge_entries};
 
-/// The code of the framed kind on sheets.
+/// The code of the framed kind: sheets have numbers for kinds.
 const CODE: u64 = 2;
 
 /// The most frames that a cycle can have.
@@ -25,90 +26,94 @@ impl EntryRule for Framed {
 
     fn allows(&self, row: &Row, index: usize) -> bool {
         let entry = row[index];
+        // `as`: Rust has no `From` of a `usize` for a `u64`
         if index == 1 {
-            1 <= entry && entry <= MOST_FRAMES
+            (1..=MOST_FRAMES).contains(&entry)
         } else if (index as u64) < row[1].saturating_add(2) {
-            1 <= entry && entry <= LARGEST_ENTRY
+            (1..=LARGEST_ENTRY).contains(&entry)
         } else {
             entry == 0
         }
     }
 }
 
-/// The sum of `n` consecutive frames, from number `start` on.
-fn sum_of_frames(row: &Row, start: u64, n: u64) -> u64
-    requires lawful { framed_formulas.fault row.now ≡ 0 }
-    requires begins { start ≤ most_frames }
-    requires few { n ≤ most_frames }
-    ensures is { result ≡ frames row.now start n }
-    ensures small { result ≤ most_frames * largest_entry }
-{
-    let count = row[1];
-    let mut sum = 0;
-    for j in 0..n {
-        sum += row[2 + ((start + j) % count) as usize];
-    }
-    sum
+/// The cycle of frames of a lawful row.
+#[derive(Clone, Copy)]
+struct Cycle<'a> {
+    row: &'a Row,
+    ghost lawful: { framed_formulas.fault row.now ≡ 0 },
 }
 
-/// The largest sum of `n` consecutive frames: whole cycles come to the same from every start, so only the rest is tried.
-fn busiest_run(row: &Row, n: u64) -> u64
-    requires lawful { framed_formulas.fault row.now ≡ 0 }
-    requires few { n ≤ horizon }
-    ensures { result ≡ busiest row.now n }
-{
-    let count = row[1];
-    let cycles = n / count * sum_of_frames(row, 0, count);
-    let mut most: u64 = 0;
-    for start in 0..count {
-        most = most.max(cycles + sum_of_frames(row, start, n % count));
+#[tactic(auto, using(crate::specs::LawProofs::FramedLaws::framed_bounds))]
+impl Cycle<'_> {
+    /// How many frames the cycle has.
+    fn count(&self) -> u64
+        ensures is { result ≡ frame_count self.now.row.now }
+        ensures low { 1 ≤ result }
+        ensures high { result ≤ most_frames }
+    {
+        self.row[1]
     }
-    most
+
+    /// Frame number `j`, from 0, of the endlessly repeated cycle.
+    fn frame(&self, j: u64) -> u64
+        ensures is { result ≡ frame self.now.row.now j }
+        ensures high { result ≤ largest_entry }
+    {
+        // `as`: Rust has no `From` of a `u64` for a `usize`
+        self.row[2 + (j % self.count()) as usize]
+    }
+
+    /// The sum of `n` consecutive frames, from number `start` on.
+    fn sum(&self, start: u64, n: u64) -> u64
+        requires begins { start ≤ most_frames }
+        requires few { n ≤ most_frames }
+        ensures is { result ≡ frames self.now.row.now start n }
+        ensures high { result ≤ most_frames * largest_entry }
+    {
+        (start..start + n).map(|j| self.frame(j)).sum()
+    }
+
+    /// The largest sum of `n` consecutive frames: whole cycles come to the same from every start, so only the rest is tried.
+    fn busiest(&self, n: u64) -> u64
+        requires { n ≤ horizon }
+        ensures { result ≡ busiest self.now.row.now n }
+    {
+        let count = self.count();
+        let cycles = n / count * self.sum(0, count);
+        let rest = n % count;
+        // a cycle has a frame, so there is a largest, and the 0 never stands in
+        (0..count)
+            .map(|start| cycles + self.sum(start, rest))
+            .max()
+            .unwrap_or(0)
+    }
 }
 
-/// The last instant up to the horizon with the same request as `t`, of a lawful row.
-fn last_with_same(row: &Row, t: u64) -> u64
-    requires { framed_formulas.fault row.now ≡ 0 }
-    ensures { Until horizon (framed.request row.now) t result }
-{
-    last_before_next(t, row[0])
-}
+#[tactic(auto, using(crate::specs::LawProofs::FramedLaws::framed_bounds))]
+impl ByFormulas for Framed {
+    ghost formulas = { λ _. framed_formulas };
 
-impl LoadKind for Framed {
-    ghost means = { λ _. framed };
+    ghost laws = { λ _. framed_laws };
 
-    ghost laws = { λ k. framed_laws };
-
-    fn lawful(&self, row: &Row) -> Result<(), RowFault> {
-        judge(self, row)
+    fn judge(&self, row: &Row) -> Result<(), RowFault> {
+        judge_entries(self, row)
     }
 
-    fn longest(&self, row: &Row) -> u64 {
-        match self.lawful(row) {
-            Ok(()) => busiest_run(row, 1),
-            Err(_) => 0,
-        }
+    fn longest_of_lawful(&self, row: &Row) -> u64 {
+        Cycle { row }.busiest(1)
     }
 
-    fn separation(&self, row: &Row) -> u64 {
-        match self.lawful(row) {
-            Ok(()) => row[0],
-            Err(_) => 0,
-        }
+    fn separation_of_lawful(&self, row: &Row) -> u64 {
+        row[0]
     }
 
-    fn request(&self, row: &Row, t: u64) -> u64 {
-        match self.lawful(row) {
-            Ok(()) => busiest_run(row, begun(t, row[0])),
-            Err(_) => 0,
-        }
+    fn request_of_lawful(&self, row: &Row, t: u64) -> u64 {
+        Cycle { row }.busiest(t.div_ceil(self.separation_of_lawful(row)))
     }
 
-    fn until(&self, row: &Row, t: u64) -> u64 {
-        match self.lawful(row) {
-            Ok(()) => last_with_same(row, t),
-            Err(_) => 0,
-        }
+    fn until_of_lawful(&self, row: &Row, t: u64) -> u64 {
+        last_before_next(t, self.separation_of_lawful(row))
     }
 }
 

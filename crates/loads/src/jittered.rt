@@ -1,15 +1,16 @@
 //! The jittered kind, over any kind: a job may be ready late by up to J ticks.
 ghost use Rattle.std.specs.Prelude.{◌≡◌};
 ghost use Rattle.loads.specs.Codes.{jittered_code};
-ghost use Rattle.loads.specs.Jittered.{jittered, row_below};
+ghost use Rattle.loads.specs.Jittered.{jittered_formulas, row_below};
 ghost use Rattle.loads.specs.LawProofs.JitteredLaws.{jittered_laws};
 ghost use Rattle.std.proofs.Common.{rules};
 
+use super::guarded::ByFormulas;
 use super::kind::{HORIZON, ListedKind, LoadKind};
 use super::rows::{Row, RowFault};
 use numbers::LARGEST_LISTED;
 
-/// How much more than the kind below a jittered kind has as its code.
+/// How much more than the kind below a jittered kind has as its code: sheets have numbers for kinds.
 const CODE_STEP: u64 = 10;
 
 /// The index of entry 8, the jitter.
@@ -30,12 +31,12 @@ fn without_jitter(row: &Row) -> Row
     below
 }
 
-impl<K: LoadKind> LoadKind for Jittered<K> {
-    ghost means = { λ j. jittered (K.means j.below) };
+impl<K: LoadKind> ByFormulas for Jittered<K> {
+    ghost formulas = { λ j. jittered_formulas (K.means j.below) };
 
-    ghost laws = { λ k. jittered_laws (K.means k.below) (K.laws k.below) };
+    ghost laws = { λ j. jittered_laws (K.means j.below) (K.laws j.below) };
 
-    fn lawful(&self, row: &Row) -> Result<(), RowFault> {
+    fn judge(&self, row: &Row) -> Result<(), RowFault> {
         let below = without_jitter(row);
         self.below.lawful(&below)?;
         if row[JITTER] < self.below.separation(&below) {
@@ -45,47 +46,37 @@ impl<K: LoadKind> LoadKind for Jittered<K> {
         }
     }
 
-    fn longest(&self, row: &Row) -> u64 {
-        match self.lawful(row) {
-            Ok(()) => self.below.longest(&without_jitter(row)),
-            Err(_) => 0,
-        }
+    fn longest_of_lawful(&self, row: &Row) -> u64 {
+        self.below.longest(&without_jitter(row))
     }
 
-    fn separation(&self, row: &Row) -> u64 {
-        match self.lawful(row) {
-            Ok(()) => self.below.separation(&without_jitter(row)) - row[JITTER],
-            Err(_) => 0,
-        }
+    fn separation_of_lawful(&self, row: &Row) -> u64 {
+        self.below.separation(&without_jitter(row)) - row[JITTER]
     }
 
-    fn request(&self, row: &Row, t: u64) -> u64 {
-        match self.lawful(row) {
-            Ok(()) if t > 0 => self
-                .below
-                .request(&without_jitter(row), t.min(HORIZON) + row[JITTER]),
-            _ => 0,
+    fn request_of_lawful(&self, row: &Row, t: u64) -> u64 {
+        // no jitter is added at 0: no job arrives in no time
+        if t == 0 {
+            return 0;
         }
+        self.below.request(&without_jitter(row), t + row[JITTER])
     }
 
-    fn until(&self, row: &Row, t: u64) -> u64 {
-        match self.lawful(row) {
-            Ok(()) if t > 0 => {
-                let last = self
-                    .below
-                    .until(&without_jitter(row), t.min(HORIZON) + row[JITTER]);
-                if last == HORIZON {
-                    return HORIZON;
-                }
-                last - row[JITTER]
-            }
-            _ => 0,
+    fn until_of_lawful(&self, row: &Row, t: u64) -> u64 {
+        // every later instant asks for something
+        if t == 0 {
+            return 0;
         }
+        let last = self.below.until(&without_jitter(row), t + row[JITTER]);
+        if last == HORIZON {
+            return HORIZON;
+        }
+        last - row[JITTER]
     }
 }
 
 impl<K: ListedKind> ListedKind for Jittered<K> {
-    ghost coded = { λ j. jittered_code (K.ListedKind.coded j.below) };
+    ghost coded = { λ j. jittered_code (K.coded j.below) };
 
     ghost codes = { Prim.search rules };
 

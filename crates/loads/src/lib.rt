@@ -2,6 +2,7 @@
 #![tactic(auto)]
 
 mod framed;
+mod guarded;
 mod jittered;
 mod kind;
 mod periods;

@@ -26,12 +26,14 @@ pub(crate) trait EntryRule {
 }
 
 /// Yes, or the lowest-numbered entry that breaks the rule.
-pub(crate) fn judge<R: EntryRule>(rule: &R, row: &Row) -> Result<(), RowFault>
+pub(crate) fn judge_entries<R: EntryRule>(rule: &R, row: &Row) -> Result<(), RowFault>
     ensures { Judged (lowest (R.passes rule.now row.now) 8) result }
 {
+    // a `for`, which is compiled to eight tests: a search by `find` makes the slack of framed tasks take three times as long
     for index in 0..8 {
         if !rule.allows(row, index) {
             return Err(RowFault {
+                // `as`: Rust has no `From` of a `usize` for a `u64`
                 entry: index as u64 + 1,
             });
         }

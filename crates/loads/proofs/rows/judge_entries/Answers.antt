@@ -1,15 +1,12 @@
 use Rattle.std.proofs.Common.{ℕ, sym, ◌∙◌, add-one, arith, below_more}
 use Rattle.loads.specs.LawProofs.Lowest.{lowest_all, lowest_first}
-use Rattle.loads.proofs.rows.judge.Goals as goal
+use Rattle.loads.proofs.rows.judge_entries.Goals as goal
 
 pub returns-then-not-allows : goal.returns-then-not-allows
 returns-then-not-allows g c =
     let p = g.R.EntryRule.passes c.args.rule.now c.args.row.now in
     let i : ℕ = c.loop-index.index in
     (lowest_first p 8 i c.loop-index-test.true (sym c.if-not-allows.ensures) c.loop-index.invariant ∙ sym (add-one i), omega arith)
-
-pub loop-index-preserved : goal.loop-index-preserved
-loop-index-preserved g c = below_more _ _ c.loop-index.invariant (sym c.if-not-allows.ensures)
 
 pub returns : goal.returns
 returns g c =

@@ -1,5 +1,5 @@
 use Rattle.std.proofs.Common.{◌≡◌, ℕ, ◌<◌, true}
-use Rattle.loads.proofs.rows.judge.Given as goal
+use Rattle.loads.proofs.rows.judge_entries.Given as goal
 
 -- every entry so far passes
 abbrev pub invariant-loop-index : goal.invariant-loop-index

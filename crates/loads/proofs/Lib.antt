@@ -1,0 +1,2 @@
+pub mod Untils
+pub mod JitteredUntils

@@ -1,0 +1,8 @@
+use Rattle.loads.specs.LawProofs.FramedLaws.{framed_periodic}
+use Rattle.loads.proofs.Untils.{until_work}
+use Rattle.loads.proofs.framed.FramedByFormulas.until_of_lawful.Goals as goal
+
+pub returns : goal.returns
+returns c =
+    let period = c.separation_of_lawful in
+    until_work (framed_periodic c.args.row.now c.requires.lawful) period.result c.args.t c.last_before_next.result period.ensures c.last_before_next.ensures
