@@ -63,14 +63,14 @@ module _ (f : ℕ → ℤ) (a : ℕ) where
             (λ less. let under = l.above v vl (omega arith) in omega (arith, ints, clamps));
       }
 
-  -- where no later instant has more, the range may be cut off
-  pub largest_cut : (b m : ℕ) (z : ℤ) → a ≤ m → m ≤ max a b → Largest f a m z → ((v : ℕ) → m < v → f v ≤ℤ f m) → Largest f a b z
+  -- where no later instant of a range has more, it may be cut off
+  pub largest_cut : (b m : ℕ) (z : ℤ) → a ≤ m → m ≤ max a b → Largest f a m z → ((v : ℕ) → m < v → v ≤ max a b → f v ≤ℤ f m) → Largest f a b z
   largest_cut b m z low high l top =
       let (t, tl, th, same) = l.reached in
       record {
         reached = (t, tl, omega arith, same);
         above = λ v vl vh. by_lt m v
-            (λ more. let under = top v more in let over = l.above m low (omega arith) in omega (arith, ints))
+            (λ more. let under = top v more vh in let over = l.above m low (omega arith) in omega (arith, ints))
             (λ less. l.above v vl (omega arith));
       }
 

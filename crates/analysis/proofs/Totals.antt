@@ -1,14 +1,14 @@
 -- Requests of several rows together: bounds, one row more, and how they rise.
-use Rattle.std.proofs.Common.{◌≡◌, ℕ, ◌+◌, ◌<◌, ◌≤◌, List, [], ◌∷◌, length, get_or, take, ap, ⊎_elim, arith, take_all}
-use Rattle.std.proofs.lemmas.List.Sums.{sum_by-cons, sum_by_more, sum_by-take-le}
+use Rattle.std.proofs.Common.{◌≡◌, ℕ, ◌+◌, ◌^◌, ◌<◌, ◌≤◌, List, [], ◌∷◌, ◌++◌, length, get_or, take, ap, ⊎_elim, arith, take_all}
+use Rattle.std.proofs.lemmas.List.Sums.{sum_by-take-le, sum_by-le, sum_by-le-sum_by, sum_by-append}
 use Rattle.std.proofs.lemmas.Bool.{cases_eq}
-use Rattle.loads.specs.Kind.{Kind, Laws, most_work}
-use Rattle.analysis.specs.Instants.{requests}
+use Rattle.loads.specs.Kind.{Kind, Laws, Load, NoLoad, most_work}
+use Rattle.analysis.specs.Instants.{requests, most_requested}
 
 module _ (k : Kind) where
-  -- one row more
-  pub requests_more : (rows : List (List ℕ)) (i t : ℕ) → i < length rows → requests k (take (i + 1) rows) t ≡ requests k (take i rows) t + k.request (get_or rows i []) t
-  requests_more rows i t h = sum_by_more (λ row. k.request row t) rows i [] h
+  -- one row more at the end
+  pub requests_push : (rows : List (List ℕ)) (row : List ℕ) (t : ℕ) → requests k (rows ++ row ∷ []) t ≡ requests k rows t + k.request row t
+  requests_push rows row t = omega (arith, sum_by-append (λ row. k.request row t) rows (row ∷ []))
 
   -- all rows
   pub requests_all : (rows : List (List ℕ)) (i t : ℕ) → length rows ≤ i → requests k (take i rows) t ≡ requests k rows t
@@ -18,21 +18,23 @@ module _ (k : Kind) where
   requests_of_some rows i t = sum_by-take-le (λ row. k.request row t) rows i
 
   module _ (laws : Laws k) where
-    pub request_bounded : (row : List ℕ) (t : ℕ) → k.request row t ≤ most_work
-    request_bounded row t =
+    -- a row is lawful, or it stands for no work
+    either_way : {P : Type 0} (row : List ℕ) → (Load k row → P) → (NoLoad k row → P) → P
+    either_way row lawful unlawful =
         ⊎_elim
-        (λ (lawful : k.fault row ≡ 0). (laws.lawful row lawful).bounded t)
-        (λ (unlawful : k.fault row ≡ 0 → ⊥). omega (arith, (laws.unlawful row unlawful).no_request t))
+        (λ (yes' : k.fault row ≡ 0). lawful (laws.lawful row yes'))
+        (λ (no' : k.fault row ≡ 0 → ⊥). unlawful (laws.unlawful row no'))
         (cases_eq (k.fault row) 0)
+
+    pub request_bounded : (row : List ℕ) (t : ℕ) → k.request row t ≤ most_work
+    request_bounded row t = either_way row (λ load. load.bounded t) (λ none. omega (arith, none.no_request t))
 
     pub request_rises : (row : List ℕ) (t u : ℕ) → t ≤ u → k.request row t ≤ k.request row u
-    request_rises row t u h =
-        ⊎_elim
-        (λ (lawful : k.fault row ≡ 0). (laws.lawful row lawful).rises t u h)
-        (λ (unlawful : k.fault row ≡ 0 → ⊥). omega (arith, (laws.unlawful row unlawful).no_request t))
-        (cases_eq (k.fault row) 0)
+    request_rises row t u h = either_way row (λ load. load.rises t u h) (λ none. omega (arith, none.no_request t))
 
     pub requests_rise : (rows : List (List ℕ)) (t u : ℕ) → t ≤ u → requests k rows t ≤ requests k rows u
-    requests_rise [] t u h = omega arith
-    requests_rise (row ∷ rows) t u h =
-        omega (arith, request_rises row t u h, requests_rise rows t u h, sum_by-cons (λ row. k.request row t) row rows, sum_by-cons (λ row. k.request row u) row rows)
+    requests_rise rows t u h = sum_by-le-sum_by (λ row. k.request row t) (λ row. k.request row u) rows (λ row. request_rises row t u h)
+
+    -- no slice of rows asks for more
+    pub requests_small : (rows : List (List ℕ)) (t : ℕ) → length rows < 2 ^ 64 → requests k rows t ≤ most_requested
+    requests_small rows t few = omega (arith, sum_by-le (λ row. k.request row t) most_work rows (λ i none here. request_bounded (get_or rows i none) t))

@@ -9,11 +9,13 @@ use supplies::{LAST_INSTANT, Supply};
 
 impl<K: LoadKind, S: Supply> Level<'_, K, S> {
     /// The first instant from 1 to the limit at which the supply covers `base` and all that the rows above can ask for, or none.
+    #[tactic(auto, using(crate::proofs::Totals::request_bounded, crate::proofs::Serving::none_within))]
     pub fn first_instant(&self, base: u64, limit: u64) -> Option<u64>
         ensures is { result ≡ level_first K.means S.gives self.now base limit }
         ensures earliest { Earliest (level_covered K.means S.gives self.now base) limit result }
     {
-        let mut t: u64 = 1;
+        let mut t = 1;
+        // Loops, and no chains: both are left as soon as the answer is known.
         'instants: loop {
             if t > limit {
                 break 'instants None;

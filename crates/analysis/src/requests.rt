@@ -12,11 +12,10 @@ impl<K: LoadKind, S: Supply> Level<'_, K, S> {
         ensures is { result ≡ requests (K.means self.now.kind.now) self.now.above.now t }
         ensures small { result ≤ most_requested }
     {
-        let mut sum: u128 = 0;
-        for row in self.above {
-            sum += u128::from(self.kind.request(row, t));
-        }
-        sum
+        self.above
+            .iter()
+            .map(|row| u128::from(self.kind.request(row, t)))
+            .sum()
     }
 
     /// A base amount of work, as one job, and all that the rows above can ask for in `t` ticks.

@@ -27,30 +27,30 @@ impl<K: LoadKind, S: Supply> Level<'_, K, S> {
         requires { t ≤ horizon }
         ensures { Until horizon (requests (K.means self.now.kind.now) self.now.above.now) t result }
     {
-        let mut end = HORIZON;
-        for row in self.above {
-            end = end.min(self.unchanged_until(row, t));
-        }
-        end
+        self.above
+            .iter()
+            .fold(HORIZON, |end, row| end.min(self.unchanged_until(row, t)))
     }
 
     /// What the supply leaves over at `t`, after one job of `longest` ticks and all that the rows above can ask for.
     fn left_at(&self, longest: u64, t: u64) -> i128
         ensures { result ≡ level_left_over K.means S.gives self.now longest t }
     {
+        // `as`: an `i128` has no `From<u128>`, and no work is too large for it.
         i128::from(self.supply.supplied(t)) - self.work(longest, t) as i128
     }
 
     /// The slack of a task with this longest job and deadline below the rows above: the most that the supply leaves over at an
-    /// instant from 1 to the deadline. A deadline of 0 counts as 1. Only the ends of stretches are looked at: over a stretch the
-    /// work stays, and the supply does not fall.
+    /// instant from 1 to the deadline. A deadline of 0 counts as 1.
     pub fn slack(&self, longest: u64, deadline: u64) -> i128
         ensures is { result ≡ level_slack K.means S.gives self.now longest deadline }
         ensures greatest { Largest (level_left_over K.means S.gives self.now longest) 1 deadline result }
     {
         let limit = deadline.clamp(1, LAST_INSTANT);
+        // Only the ends of stretches are looked at: over a stretch the work stays, and the supply does not fall.
         let mut end = self.stretch_end(1).min(limit);
         let mut most = self.left_at(longest, end);
+        // A `while`: where the next stretch ends is known only once this one has ended.
         while end < limit {
             end = self.stretch_end(end + 1).min(limit);
             most = most.max(self.left_at(longest, end));

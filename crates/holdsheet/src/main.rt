@@ -13,6 +13,7 @@ struct Task {
 }
 
 /// Two tasks, the most urgent first. The lower one is served, although its work at the deadline is more than is supplied there.
+// An array: the program judges these two and reads no others.
 const TASKS: [Task; 2] = [
     Task {
         row: [4, 10, 0, 0, 0, 0, 0, 0],

@@ -10,6 +10,7 @@ use super::fault::SupplyFault;
 use super::supply::{LAST_INSTANT, ListedSupply, Supply};
 
 /// The code of a share on sheets.
+// A number and no enum: sheets hold numbers.
 const CODE: u64 = 2;
 
 /// The longest period of a share.
@@ -30,7 +31,7 @@ impl Share {
     pub fn new(budget: u64, period: u64) -> Result<Share, SupplyFault>
         ensures { MatchResult result (λ s. LawfulShare budget period × (s.budget ≡ budget) × (s.period ≡ period)) (λ f. (LawfulShare budget period → ⊥) × (f ≡ SupplyFault.Share)) }
     {
-        if 1 <= budget && budget <= period && period <= LONGEST_PERIOD {
+        if (1..=period).contains(&budget) && period <= LONGEST_PERIOD {
             Ok(Share { budget, period })
         } else {
             Err(SupplyFault::Share)
@@ -55,6 +56,7 @@ impl Supply for Share {
 
     ghost laws = { λ s. share_laws s.budget s.period s.some s.part };
 
+    #[tactic(auto, using(crate::specs::LawProofs::Rounds::gaps_before))]
     fn supplied(&self, t: u64) -> u64 {
         let t = t.min(LAST_INSTANT);
         if self.budget == self.period {
@@ -63,7 +65,7 @@ impl Supply for Share {
         let gap = self.period - self.budget;
         let round = t.saturating_sub(gap).div_ceil(self.period).max(1);
         let end = (round + 1) * self.period - self.budget;
-        if end - self.budget <= t && t <= end {
+        if (end - self.budget..=end).contains(&t) {
             t - (round + 1) * gap
         } else {
             (round - 1) * self.budget
@@ -78,7 +80,7 @@ impl Supply for Share {
             return None;
         }
         let at = self.reaching(w);
-        if at <= LAST_INSTANT { Some(at) } else { None }
+        (at <= LAST_INSTANT).then_some(at)
     }
 }
 

@@ -7,6 +7,7 @@ ghost use Rattle.supplies.specs.LawProofs.WholeLaws.{whole_laws};
 use super::supply::{LAST_INSTANT, ListedSupply, Supply};
 
 /// The code of the whole processor on sheets.
+// A number and no enum: sheets hold numbers.
 const CODE: u64 = 1;
 
 /// All of the time.
@@ -23,7 +24,7 @@ impl Supply for Whole {
     }
 
     fn when(&self, w: u64) -> Option<u64> {
-        if w <= LAST_INSTANT { Some(w) } else { None }
+        (w <= LAST_INSTANT).then_some(w)
     }
 }
 

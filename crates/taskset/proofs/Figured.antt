@@ -78,9 +78,6 @@ module _ (k : Kind) (s : ℕ → ℕ) (l : Ledger) (c : List ℕ) where
     here : section x (i + 1) ≡ length
     here = section_is x i ∙ sym is
 
-    pub held_unused : length ≡ 0 → 0 ≡ held_for k s l c (i + 1) x
-    held_unused none = sym (held_none k s l c (i + 1) x (here ∙ none))
-
     pub held_used : (m t : ℕ) → (length ≡ 0 → ⊥) → m ≡ ceiling c (i + 1) - 1 → t ≡ unwrap_or (first_covered k s (take m (rows l)) length last_instant) 0 → t ≡ held_for k s l c (i + 1) x
     held_used m t used high told =
         told

@@ -23,9 +23,6 @@ module _ (k : Kind) (s : ℕ → ℕ) where
   abbrev pub Reckoned : Ledger → ℕ → List ℤ → Type 0
   Reckoned l n slacks = Filled 32 (pos 0) (slack k s l) n slacks
 
-  pub reckoned_all : (l : Ledger) (slacks : List ℤ) → Reckoned l (length l.tasks) slacks → Slacks k s l slacks
-  reckoned_all l slacks h i low high = h.filled (i - 1) (omega arith) ∙ ap (slack k s l) (omega arith)
-
   -- ceilings settled by the slacks of all tasks
   pub settled_by : (t u : Table) (slacks : List ℤ) → Slacks k s (ledger t) slacks → ledger u ≡ ledger t → held u ≡ lowest_table (slack_at slacks) (ledger t) → Settled k s t u
   settled_by t u slacks are entries ceilings = record {

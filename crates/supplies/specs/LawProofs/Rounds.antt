@@ -20,8 +20,12 @@ module _ (q p : ℕ) (lo : 1 ≤ q) (hi : q ≤ p) where
   abbrev f : ℕ → ℕ
   f t = given_by q p (round q p t) t
 
-  pub parts : (j : ℕ) → j * p ≡ j * q + j * (p - q)
+  parts : (j : ℕ) → j * p ≡ j * q + j * (p - q)
   parts j = let e : p ≡ q + (p - q) = omega arith in ap (λ x. j * x) e ∙ mul-add j q (p - q)
+
+  -- while a budget is given, all gaps up to it have gone by
+  pub gaps_before : (n t : ℕ) → 2 ≤ n → n * p - q - q ≤ t → n * (p - q) ≤ t
+  gaps_before n t more given = omega (arith, parts n, mul-le 2 q n q more (omega arith))
 
   round_ends : (t : ℕ) → t ≤ round q p t * p + b
   round_ends t =
@@ -115,9 +119,6 @@ module _ (q p : ℕ) (lo : 1 ≤ q) (hi : q ≤ p) where
 
     full_high : w ≤ full * q + q
     full_high = omega (arith, div-add-mod' (w - 1) q, mod_below (w - 1) q lo)
-
-    pub at_least : w ≤ at w
-    at_least = omega (arith, full_low, mul-le full q full p (omega arith) hi)
 
     pub reached : f (at w) ≡ w
     reached = omega (arith, full_low, share_at (at w) full (λ _. omega (arith, full_low)) (omega (arith, full_low, full_high, one_more full p)))

@@ -1,5 +1,5 @@
 use Rattle.std.proofs.Common.{◌≡◌, length, arith}
-use Rattle.taskset.proofs.Replays.{replaying_start, replaying_more, replaying_all}
+use Rattle.taskset.proofs.Replays.{replaying_all}
 use Rattle.taskset.proofs.histories.replay.Goals as goal
 
 pub returns : goal.returns
