@@ -1,20 +1,23 @@
--- The tasks of a table, by their places.
-use Rattle.std.proofs.Common.{◌≡◌, ℕ, zero, suc, ◌+◌, ◌-◌, ◌*◌, ◌<◌, ◌≤◌, List, [], ◌∷◌, map, length, get_or, take, drop, set, sym, refl, ap, ◌∙◌, ⊎_elim, add-sub_cancel, one-add, arith}
+-- The tasks of a table, from its arrays: what stands there, and what an edit of the arrays makes of them.
+use Rattle.std.proofs.Common.{◌≡◌, ℕ, zero, suc, ◌+◌, ◌-◌, ◌*◌, ◌<◌, ◌≤◌, List, [], ◌∷◌, ◌++◌, map, length, get_or, take, drop, set, replicate, sym, refl, ap, ◌∙◌, one-add, add-sub_cancel, arith}
 use lib.Seq.{take-set-lt}
-use Rattle.std.specs.List.{insert, remove}
-use Rattle.std.proofs.lemmas.List.{ext_get_or, get_or_past, get_or-drop, length-set, drop-drop, get_or-set_same, get_or-set_other, drop-set-add}
-use Rattle.std.proofs.lemmas.List.Edits.{length-insert, get_or-insert_below, get_or-insert_at, get_or-insert_above, length-remove, get_or-remove_below, get_or-remove_above}
-use Rattle.std.proofs.lemmas.Bool.{cases_eq, cases_lt}
-use Rattle.ledger.specs.Ledger.{Task, no_task, with_section}
+use Rattle.std.proofs.lemmas.List.{length-take, length-drop, get_or_past, get_or-drop, get_or-take, drop-drop, drop_at, take_at, take-set-le, drop-set-add, drop-set-lt, set_at, get_or_at}
+use Rattle.ledger.specs.Ledger.{Task, no_task, fresh, with_section}
 use Rattle.table.specs.Flat.{tasks_of, sixteen}
-use Rattle.table.proofs.Sixteens.{sixteen_same, length_sixteen, get_or_sixteen}
+use Rattle.table.proofs.Shifted.{Opened, Closed, opened, closed}
+use Rattle.table.proofs.Splits.{same_task, tasks_split, tasks_first}
+use borrow.Rule.Slice.PartMut.{put_mid, mid_of}
+
+-- the lengths of one task
+length_sixteen : (us : List ℕ) (k : ℕ) → 16 * k + 16 ≤ length us → length (sixteen k us) ≡ 16
+length_sixteen us k h = simp (length-take, length-drop) (omega arith)
+
+get_or_sixteen : (us : List ℕ) (k i d : ℕ) → i < 16 → get_or (sixteen k us) i d ≡ get_or us (16 * k + i) d
+get_or_sixteen us k i d h = get_or-take 16 (drop (16 * k) us) i d h ∙ get_or-drop (16 * k) us i d
 
 -- the task with an index
 abbrev pub task_at : List (List ℕ) → List ℕ → List ℕ → ℕ → Task
 task_at rows deadlines sections i = record { row = get_or rows i []; deadline = get_or deadlines i 0; lengths = sixteen i sections }
-
-pub same_parts : (r r' : List ℕ) (d d' : ℕ) (s s' : List ℕ) → r ≡ r' → d ≡ d' → s ≡ s' → ◌≡◌ {A = Task} (record { row = r; deadline = d; lengths = s }) (record { row = r'; deadline = d'; lengths = s' })
-same_parts r r' d d' s s' e f g = cc
 
 pub length_tasks : (n : ℕ) (r : List (List ℕ)) (d s : List ℕ) → length (tasks_of n r d s) ≡ n
 length_tasks zero r d s = refl
@@ -25,83 +28,10 @@ get_or_tasks zero r d s k h = absurd (omega arith)
 get_or_tasks (suc n) r d s zero h = refl
 get_or_tasks (suc n) r d s (suc k) h =
     get_or_tasks n (drop 1 r) (drop 1 d) (drop 16 s) k (omega arith)
-    ∙ same_parts _ _ _ _ _ _
+    ∙ same_task _ _ _ _ _ _
     (get_or-drop 1 r k [] ∙ ap (λ m. get_or r m []) (one-add k))
     (get_or-drop 1 d k 0 ∙ ap (λ m. get_or d m 0) (one-add k))
     (let e : 16 + 16 * k ≡ 16 * suc k = omega arith in ap (take 16) (drop-drop (16 * k) 16 s ∙ ap (λ m. drop m s) e))
-
--- old arrays, and new ones
-module _ (r r' : List (List ℕ)) (d d' s s' : List ℕ) where
-  -- the task with index i now is the one that had index m
-  pub record Moved (i m : ℕ) : Type 0 where
-    pub row : get_or r' i [] ≡ get_or r m []
-    pub deadline : get_or d' i 0 ≡ get_or d m 0
-    pub lengths : sixteen i s' ≡ sixteen m s
-
-  moved_task : (n i m : ℕ) → m < n → Moved i m → task_at r' d' s' i ≡ get_or (tasks_of n r d s) m no_task
-  moved_task n i m h same = same_parts _ _ _ _ _ _ same.row same.deadline same.lengths ∙ sym (get_or_tasks n r d s m h)
-
-  -- one task more, at an index
-  pub tasks_inserted : (n at : ℕ) (new : Task) → at ≤ n → ((i : ℕ) → i < at → Moved i i) → task_at r' d' s' at ≡ new → ((i : ℕ) → at ≤ i → i < n → Moved (i + 1) i) → tasks_of (n + 1) r' d' s' ≡ insert (tasks_of n r d s) at new
-  tasks_inserted n at new within before here behind =
-      let old : List Task = tasks_of n r d s in
-      let size : length old ≡ n = length_tasks n r d s in
-      let size' = length_tasks (n + 1) r' d' s' in
-      let more = length-insert old at new (omega arith) in
-      ext_get_or no_task (tasks_of (n + 1) r' d' s') (insert old at new) (omega arith)
-      (λ i h.
-      get_or_tasks (n + 1) r' d' s' i (omega arith) ∙
-      ⊎_elim
-      (λ (low : i < at). moved_task n i i (omega arith) (before i low) ∙ sym (get_or-insert_below old at new no_task i low (omega arith)))
-      (λ (high : at ≤ i).
-      ⊎_elim
-      (λ (same : i ≡ at). rw same (here ∙ sym (get_or-insert_at old at new no_task (omega arith))))
-      (λ (other : i ≡ at → ⊥).
-      let next : i ≡ (i - 1) + 1 = omega arith in
-      let shifted : task_at r' d' s' ((i - 1) + 1) ≡ get_or (insert old at new) ((i - 1) + 1) no_task =
-      moved_task n ((i - 1) + 1) (i - 1) (omega arith) (behind (i - 1) (omega arith) (omega arith)) ∙ sym (get_or-insert_above old at new no_task (i - 1) (omega arith) (omega arith)) in
-      ap (task_at r' d' s') next ∙ shifted ∙ sym (ap (λ m. get_or (insert old at new) m no_task) next))
-      (cases_eq i at))
-      (cases_lt i at))
-
-  -- one task less
-  pub tasks_removed : (n at : ℕ) → at < n → ((i : ℕ) → i < at → Moved i i) → ((i : ℕ) → at ≤ i → i + 1 < n → Moved i (i + 1)) → tasks_of (n - 1) r' d' s' ≡ remove (tasks_of n r d s) at
-  tasks_removed n at within before behind =
-      let old : List Task = tasks_of n r d s in
-      let size : length old ≡ n = length_tasks n r d s in
-      let size' = length_tasks (n - 1) r' d' s' in
-      let less = length-remove old at (omega arith) in
-      ext_get_or no_task (tasks_of (n - 1) r' d' s') (remove old at) (omega arith)
-      (λ i h.
-      get_or_tasks (n - 1) r' d' s' i (omega arith) ∙
-      ⊎_elim
-      (λ (low : i < at). moved_task n i i (omega arith) (before i low) ∙ sym (get_or-remove_below old at no_task i low (omega arith)))
-      (λ (high : at ≤ i). moved_task n i (i + 1) (omega arith) (behind i high (omega arith)) ∙ sym (get_or-remove_above old at no_task i high (omega arith)))
-      (cases_lt i at))
-
--- one length overwritten
-pub tasks_set : (n at j v : ℕ) (r : List (List ℕ)) (d s : List ℕ) → at < n → j < 16 → 16 * n ≤ length s → tasks_of n r d (set s (16 * at + j) v) ≡ set (tasks_of n r d s) at (with_section (get_or (tasks_of n r d s) at no_task) (j + 1) v)
-tasks_set n at j v r d s within resource room =
-    let old : List Task = tasks_of n r d s in
-    let new : Task = with_section (get_or old at no_task) (j + 1) v in
-    let s' : List ℕ = set s (16 * at + j) v in
-    let size : length old ≡ n = length_tasks n r d s in
-    let size' = length_tasks n r d s' in
-    let same_size = length-set old at new in
-    let same_room = length-set s (16 * at + j) v in
-    ext_get_or no_task (tasks_of n r d s') (set old at new) (omega arith)
-    (λ i h.
-    get_or_tasks n r d s' i (omega arith) ∙
-    ⊎_elim
-    (λ (same : i ≡ at).
-    let lengths : sixteen at s' ≡ set (sixteen at s) j v = ap (take 16) (drop-set-add (16 * at) s j v) ∙ take-set-lt 16 (drop (16 * at) s) j v resource in
-    let of_old : with_section (task_at r d s at) (j + 1) v ≡ new = ap (λ x. with_section x (j + 1) v) (sym (get_or_tasks n r d s at within)) in
-    let is : task_at r d s' at ≡ with_section (task_at r d s at) (j + 1) v = rw (add-sub_cancel j 1) (same_parts _ _ _ _ _ _ refl refl lengths) in
-    rw same (is ∙ of_old ∙ sym (get_or-set_same old at new no_task (omega arith))))
-    (λ (other : i ≡ at → ⊥).
-    let still : Moved r r d d s s' i i = record { row = refl; deadline = refl; lengths = sixteen_same s' s i i (omega arith) (omega arith) (λ m z b. get_or-set_other s (16 * at + j) (16 * i + m) v z (λ y. other (omega arith))) } in
-    moved_task r r d d s s' n i i (omega arith) still ∙ sym (get_or-set_other old at i new no_task other))
-    (cases_eq i at))
 
 -- the rows of the tasks are the first rows, and so are the deadlines
 pub rows_are : (n : ℕ) (r : List (List ℕ)) (d s : List ℕ) → n ≤ length r → map (λ (x : Task). x.row) (tasks_of n r d s) ≡ take n r
@@ -124,3 +54,107 @@ length_past n r d s i j h = ap (λ x. get_or x.lengths j 0) (get_or_past (tasks_
 
 pub length_beyond : (n : ℕ) (r : List (List ℕ)) (d s : List ℕ) (i j : ℕ) → i < n → 16 * n ≤ length s → 16 ≤ j → get_or (get_or (tasks_of n r d s) i no_task).lengths j 0 ≡ 0
 length_beyond n r d s i j h l m = ap (λ x. get_or x.lengths j 0) (get_or_tasks n r d s i h) ∙ get_or_past (sixteen i s) j 0 (omega (arith, length_sixteen s i (omega arith)))
+
+-- what stands in a ledger, by what stands in the arrays
+pub ruleset standing = (length_tasks, rows_are, deadlines_are, length_of, length_past, length_beyond)
+
+-- ---- edits
+
+-- the tasks before a place, at it and behind it
+module _ (r : List (List ℕ)) (d s : List ℕ) (at k n : ℕ) (whole : n ≡ at + suc k) where
+  abbrev first : List Task
+  first = tasks_of at r d s
+
+  abbrev here : Task
+  here = record { row = get_or (drop at r) 0 []; deadline = get_or (drop at d) 0 0; lengths = take 16 (drop (16 * at) s) }
+
+  abbrev later : List Task
+  later = tasks_of k (drop 1 (drop at r)) (drop 1 (drop at d)) (drop 16 (drop (16 * at) s))
+
+  around : tasks_of n r d s ≡ first ++ here ∷ later
+  around = tasks_split at (suc k) n r d s whole
+
+-- a task put in at an index: k tasks are behind it
+inserted_at : (r r' : List (List ℕ)) (d d' s s' : List ℕ) (at k n : ℕ) (row : List ℕ) (deadline : ℕ) → n ≡ at + k → Opened r r' (row ∷ []) at k → Opened d d' (deadline ∷ []) at k → Opened s s' (replicate 16 0) (16 * at) (16 * k) →
+    tasks_of (n + 1) r' d' s' ≡ take at (tasks_of n r d s) ++ fresh row deadline ∷ drop at (tasks_of n r d s)
+inserted_at r r' d d' s s' at k n row deadline whole rows deadlines sections =
+    let cut : tasks_of n r d s ≡ tasks_of at r d s ++ tasks_of k (drop at r) (drop at d) (drop (16 * at) s) = tasks_split at k n r d s whole in
+    let before : tasks_of at r' d' s' ≡ tasks_of at r d s = tasks_first at r' r d' d s' s rows.before deadlines.before sections.before in
+    let behind : later r' d' s' at k (n + 1) (omega arith) ≡ tasks_of k (drop at r) (drop at d) (drop (16 * at) s) = tasks_first k _ _ _ _ _ _ rows.behind deadlines.behind sections.behind in
+    let new : here r' d' s' at k (n + 1) (omega arith) ≡ fresh row deadline = same_task _ _ _ _ _ _
+    (sym (get_or-take 1 (drop at r') 0 [] (omega arith)) ∙ ap (λ xs. get_or xs 0 []) rows.here)
+    (sym (get_or-take 1 (drop at d') 0 0 (omega arith)) ∙ ap (λ xs. get_or xs 0 0) deadlines.here)
+    sections.here in
+    let size = length_tasks at r d s in
+    let ahead : take at (tasks_of n r d s) ≡ tasks_of at r d s = ap (take at) cut ∙ take_at _ _ at size in
+    let rest : drop at (tasks_of n r d s) ≡ tasks_of k (drop at r) (drop at d) (drop (16 * at) s) = ap (drop at) cut ∙ drop_at _ _ at size in
+    let all = around r' d' s' at k (n + 1) (omega arith) in
+    cc
+
+-- a task taken out at an index: k tasks are behind it
+removed_at : (r r' : List (List ℕ)) (d d' s s' : List ℕ) (at k n : ℕ) → n ≡ at + suc k → Closed r r' (replicate 8 0 ∷ []) at k → Closed d d' (0 ∷ []) at k → Closed s s' (replicate 16 0) (16 * at) (16 * k) →
+    tasks_of (n - 1) r' d' s' ≡ take at (tasks_of n r d s) ++ drop (at + 1) (tasks_of n r d s)
+removed_at r r' d d' s s' at k n whole rows deadlines sections =
+    let cut = around r d s at k n whole in
+    let before : tasks_of at r' d' s' ≡ tasks_of at r d s = tasks_first at r' r d' d s' s rows.before deadlines.before sections.before in
+    let behind : tasks_of k (drop at r') (drop at d') (drop (16 * at) s') ≡ later r d s at k n whole = tasks_first k _ _ _ _ _ _ rows.behind deadlines.behind sections.behind in
+    let size = length_tasks at r d s in
+    let ahead : take at (tasks_of n r d s) ≡ tasks_of at r d s = ap (take at) cut ∙ take_at _ _ at size in
+    let rest : drop (at + 1) (tasks_of n r d s) ≡ later r d s at k n whole = sym (drop-drop 1 at (tasks_of n r d s)) ∙ ap (drop 1) (ap (drop at) cut ∙ drop_at _ _ at size) in
+    let all = tasks_split at k (n - 1) r' d' s' (omega arith) in
+    cc
+
+-- one length overwritten
+set_at_index : (r : List (List ℕ)) (d s : List ℕ) (at k n j v : ℕ) → n ≡ at + suc k → j < 16 →
+    tasks_of n r d (set s (16 * at + j) v) ≡ set (tasks_of n r d s) at (with_section (get_or (tasks_of n r d s) at no_task) (j + 1) v)
+set_at_index r d s at k n j v whole resource =
+    let s' : List ℕ = set s (16 * at + j) v in
+    let cut = around r d s at k n whole in
+    let there : drop (16 * at) s' ≡ set (drop (16 * at) s) j v = drop-set-add (16 * at) s j v in
+    let before : tasks_of at r d s' ≡ tasks_of at r d s = tasks_first at r r d d s' s refl refl (take-set-le (16 * at) s (16 * at + j) v (omega arith)) in
+    let behind : later r d s' at k n whole ≡ later r d s at k n whole = ap (tasks_of k (drop 1 (drop at r)) (drop 1 (drop at d))) (ap (drop 16) there ∙ drop-set-lt 16 (drop (16 * at) s) j v resource) in
+    let old : get_or (tasks_of n r d s) at no_task ≡ here r d s at k n whole = ap (λ tasks. get_or tasks at no_task) cut ∙ get_or_at _ _ _ no_task at (length_tasks at r d s) in
+    let new : here r d s' at k n whole ≡ with_section (here r d s at k n whole) (j + 1) v = rw (add-sub_cancel j 1) (same_task _ _ _ _ _ _ refl refl (ap (take 16) there ∙ take-set-lt 16 (drop (16 * at) s) j v resource)) in
+    let all : set (tasks_of n r d s) at (with_section (here r d s at k n whole) (j + 1) v) ≡ tasks_of at r d s ++ with_section (here r d s at k n whole) (j + 1) v ∷ later r d s at k n whole = ap (λ tasks. set tasks at (with_section (here r d s at k n whole) (j + 1) v)) cut ∙ set_at _ _ _ _ at (length_tasks at r d s) in
+    let made = around r d s' at k n whole in
+    cc
+
+-- ---- the same, by position and resource, of what the calls leave
+
+pub inserted : (r : List (List ℕ)) (d s : List ℕ) (n at : ℕ) (e : List (List ℕ)) (f g : List ℕ) (row : List ℕ) (deadline p count : ℕ) →
+    e ≡ (row ∷ []) ++ take (length (mid_of at (n + 1 - at) r) - 1) (mid_of at (n + 1 - at) r) →
+    f ≡ (deadline ∷ []) ++ take (length (mid_of at (n + 1 - at) d) - 1) (mid_of at (n + 1 - at) d) →
+    g ≡ replicate 16 0 ++ take (length (mid_of (16 * at) (16 * n + 16 - 16 * at) s) - 16) (mid_of (16 * at) (16 * n + 16 - 16 * at) s) →
+    p ≡ at + 1 → at ≤ n → n < length r → n < length d → 16 * n + 16 ≤ length s → n ≡ count →
+    tasks_of (n + 1) (put_mid at (n + 1 - at) r e) (put_mid at (n + 1 - at) d f) (put_mid (16 * at) (16 * n + 16 - 16 * at) s g) ≡ take (p - 1) (tasks_of count r d s) ++ fresh row deadline ∷ drop (p - 1) (tasks_of count r d s)
+inserted r d s n at e f g row deadline p count rows deadlines sections is within few fewer room same =
+    let index : p - 1 ≡ at = omega arith in
+    rw (index, ← same) (inserted_at r _ d _ s _ at (n - at) n row deadline (omega arith)
+    (opened r e (row ∷ []) at (n + 1 - at) (n - at) (omega arith) (omega arith) rows)
+    (opened d f (deadline ∷ []) at (n + 1 - at) (n - at) (omega arith) (omega arith) deadlines)
+    (opened s g (replicate 16 0) (16 * at) (16 * n + 16 - 16 * at) (16 * (n - at)) (omega arith) (omega arith) sections))
+
+pub withdrawn : (r : List (List ℕ)) (d s : List ℕ) (n at : ℕ) (e : List (List ℕ)) (f g : List ℕ) (p count : ℕ) →
+    e ≡ drop 1 (mid_of at (n - at) r) ++ (replicate 8 0 ∷ []) →
+    f ≡ drop 1 (mid_of at (n - at) d) ++ (0 ∷ []) →
+    g ≡ drop 16 (mid_of (16 * at) (16 * n - 16 * at) s) ++ replicate 16 0 →
+    p ≡ at + 1 → at < n → n ≤ length r → n ≤ length d → 16 * n ≤ length s → n ≡ count →
+    tasks_of (n - 1) (put_mid at (n - at) r e) (put_mid at (n - at) d f) (put_mid (16 * at) (16 * n - 16 * at) s g) ≡ take (p - 1) (tasks_of count r d s) ++ drop p (tasks_of count r d s)
+withdrawn r d s n at e f g p count rows deadlines sections is within few fewer room same =
+    let index : p - 1 ≡ at = omega arith in
+    rw (index, is, ← same) (removed_at r _ d _ s _ at (n - 1 - at) n (omega arith)
+    (closed r e (replicate 8 0 ∷ []) at (n - at) (n - 1 - at) (omega arith) (omega arith) rows)
+    (closed d f (0 ∷ []) at (n - at) (n - 1 - at) (omega arith) (omega arith) deadlines)
+    (closed s g (replicate 16 0) (16 * at) (16 * n - 16 * at) (16 * (n - 1 - at)) (omega arith) (omega arith) sections))
+
+pub with_length : (n at j v p q : ℕ) (r : List (List ℕ)) (d s : List ℕ) → p ≡ at + 1 → q ≡ j + 1 → at < n → j < 16 →
+    tasks_of n r d (set s (16 * at + j) v) ≡ set (tasks_of n r d s) (p - 1) (with_section (get_or (tasks_of n r d s) (p - 1) no_task) q v)
+with_length n at j v p q r d s is on within resource =
+    let index : p - 1 ≡ at = omega arith in
+    rw (index, on) (set_at_index r d s at (n - 1 - at) n j v (omega arith) resource)
+
+pub ruleset inserting = (length_tasks, inserted)
+
+pub ruleset withdrawing = (length_tasks, withdrawn)
+
+pub ruleset sections = (length_tasks, with_length)

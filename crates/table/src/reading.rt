@@ -7,6 +7,7 @@ ghost use Rattle.table.specs.Tables.{ledger, held, deadlines, length_at};
 use crate::table::{RESOURCES, Table};
 use loads::Row;
 
+#[tactic(auto, using(crate::proofs::FlatTasks::standing))]
 impl Table {
     /// How many tasks there are.
     pub fn count(&self) -> usize
@@ -39,13 +40,12 @@ impl Table {
     pub fn length(&self, at: usize, j: usize) -> u64
         ensures { result ≡ length_at (ledger self.now).tasks at j }
     {
-        if at >= self.count {
-            return 0;
+        // An `if`: by `get`, a resource past the last would be one of the next task.
+        if at < self.count && j < RESOURCES {
+            self.sections[16 * at + j]
+        } else {
+            0
         }
-        if j >= RESOURCES {
-            return 0;
-        }
-        self.sections[16 * at + j]
     }
 
     /// The held ceiling of a resource by its index, 0 where there is no such resource.
@@ -53,9 +53,6 @@ impl Table {
         ensures is { result ≡ ceiling (held self.now) (j + 1) }
         ensures low { result ≤ natural (ledger self.now).tasks (j + 1) }
     {
-        if j >= RESOURCES {
-            return 0;
-        }
-        self.ceilings[j]
+        self.ceilings.get(j).copied().unwrap_or(0)
     }
 }

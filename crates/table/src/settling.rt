@@ -7,68 +7,95 @@ ghost use Rattle.table.specs.Tables.{ledger, held};
 use crate::table::Table;
 use ledger::Mark;
 
-/// Whether the task with an index can wait for a section.
-fn bears(slacks: &[i64; 32], at: usize, section: u64) -> bool
-    requires { at < 32 }
-    ensures { result ≡ int_le (pos section) (slice_index_or slacks.now at (pos 0)) }
-{
-    let slack = slacks[at];
-    slack >= 0 && section <= slack as u64
+/// A table whose ceilings are settled, with the slacks of its tasks by their indices.
+#[derive(Clone, Copy)]
+struct Settling<'a> {
+    table: &'a Table,
+    slacks: &'a [i64; 32],
 }
 
-impl Table {
-    /// The ceiling of a resource, by its index, lowered from a position past one after another, up to the first that cannot bear it.
-    fn lowered(&self, slacks: &[i64; 32], j: usize, from: u64) -> u64
-        requires { from ≤ length (ledger self.now).tasks }
-        ensures { result ≡ lower (bears (slack_at slacks.now) (ledger self.now) (j + 1)) from }
+impl Settling<'_> {
+    /// Whether the task with an index can wait for a section.
+    fn bears(&self, at: usize, section: u64) -> bool
+        requires { at < 32 }
+        ensures { result ≡ int_le (pos section) (slice_index_or self.now.slacks.now at (pos 0)) }
     {
+        i128::from(section) <= i128::from(self.slacks[at])
+    }
+
+    /// The ceiling of a resource, by its index, lowered from a position past one after another, up to the first that cannot bear it.
+    #[tactic(auto, using(crate::proofs::Bearings::lowering))]
+    fn lowered(&self, j: usize, from: u64) -> u64
+        requires { from ≤ length (ledger self.now.table.now).tasks }
+        ensures { result ≡ lower (bears (slack_at self.now.slacks.now) (ledger self.now.table.now) (j + 1)) from }
+    {
+        // A `while`: the number that it stops at is the answer, and a range in reverse has none to give where every position bears.
         let mut ceiling = from as usize;
-        while ceiling > 1 && bears(slacks, ceiling - 2, self.longest_below(ceiling - 1, j)) {
+        while ceiling > 1 && self.bears(ceiling - 2, self.table.longest_below(ceiling - 1, j)) {
             ceiling -= 1;
         }
         ceiling as u64
     }
 
     /// The lowest ceiling of a resource by its index, with this mark.
-    fn lowest(&self, slacks: &[i64; 32], j: usize, mark: Mark) -> u64
-        ensures { result ≡ settled mark (bears (slack_at slacks.now) (ledger self.now) (j + 1)) (natural (ledger self.now).tasks (j + 1)) }
+    #[tactic(auto, using(ledger::proofs::Natural::natural_within))]
+    fn lowest(&self, j: usize, mark: Mark) -> u64
+        ensures { result ≡ settled mark (bears (slack_at self.now.slacks.now) (ledger self.now.table.now) (j + 1)) (natural (ledger self.now.table.now).tasks (j + 1)) }
     {
-        let natural = self.natural(j);
+        let natural = self.table.natural(j);
         match mark {
             Mark::Kept => natural,
-            Mark::Lowered => self.lowered(slacks, j, natural),
+            Mark::Lowered => self.lowered(j, natural),
         }
     }
 
     /// The lowest ceilings of all resources, each settled by itself.
-    fn lowest_ceilings(&self, slacks: &[i64; 32]) -> [u64; 16]
-        ensures { result ≡ lowest_table (slack_at slacks.now) (ledger self.now) }
+    #[tactic(auto, using(crate::proofs::Bearings::filling))]
+    fn lowest_ceilings(&self) -> [u64; 16]
+        ensures { result ≡ lowest_table (slack_at self.now.slacks.now) (ledger self.now.table.now) }
     {
+        // A `for`: each resource is settled by itself, under its own mark.
         let mut ceilings = [0; 16];
-        for (j, mark) in self.marks.iter().enumerate() {
-            ceilings[j] = self.lowest(slacks, j, *mark);
+        for (j, mark) in self.table.marks.iter().enumerate() {
+            ceilings[j] = self.lowest(j, *mark);
         }
         ceilings
     }
 
+    /// Whether every position can bear its blocking under the natural ceilings.
+    fn bearable(&self) -> bool
+        ensures { IsTrue result ↔ NaturallyBorne (slack_at self.now.slacks.now) (ledger self.now.table.now) }
+    {
+        let ceilings = self.table.natural_ceilings();
+        (0..self.table.count()).all(|at| {
+            let blocking = self.table.blocking_under(&ceilings, at + 1);
+            self.bears(at, blocking)
+        })
+    }
+}
+
+impl Table {
     /// Settles every ceiling afresh, as low as the slacks of the tasks, by their indices, allow.
+    #[tactic(auto, using(ledger::proofs::Lowest::lowest_natural))]
     pub fn settle(&mut self, slacks: &[i64; 32])
         ensures ledger { ledger self.new ≡ ledger self.old }
         ensures held { held self.new ≡ lowest_table (slack_at slacks.now) (ledger self.old) }
     {
-        self.ceilings = self.lowest_ceilings(slacks);
+        let settling = Settling {
+            table: self,
+            slacks,
+        };
+        self.ceilings = settling.lowest_ceilings();
     }
 
     /// Whether every position can bear its blocking under the natural ceilings, with these slacks of the tasks by their indices.
     pub fn bearable(&self, slacks: &[i64; 32]) -> bool
         ensures { IsTrue result ↔ NaturallyBorne (slack_at slacks.now) (ledger self.now) }
     {
-        let ceilings = self.natural_ceilings();
-        for at in 0..self.count() {
-            if !bears(slacks, at, self.blocking_under(&ceilings, at + 1)) {
-                return false;
-            }
-        }
-        true
+        let settling = Settling {
+            table: self,
+            slacks,
+        };
+        settling.bearable()
     }
 }

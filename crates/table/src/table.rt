@@ -14,7 +14,8 @@ pub(crate) const TASKS: usize = 32;
 pub const RESOURCES: usize = 16;
 
 /// What was entered of each task and each resource, by their indices from 0, and the ceilings that are held. The sections stand
-/// in one flat array, sixteen lengths for each task.
+/// in one flat array, sixteen lengths for each task. The arrays are fixed, as the memory of a table is, with `count` places in use;
+/// rows and deadlines stand by themselves, since each is lent as a slice.
 #[derive(Clone, Copy)]
 pub struct Table {
     pub(crate) count: usize,

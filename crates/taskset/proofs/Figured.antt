@@ -15,7 +15,6 @@ use Rattle.ledger.specs.History.{Answer, After}
 use Rattle.ledger.specs.Instants.{job, slack, covered_with, first_with, first_instant, FirstInstant, through_by, held_for, hold}
 use Rattle.ledger.specs.Ledger.{Task, Ledger, rows, section}
 use Rattle.ledger.proofs.Histories.{first_instant_is, slack_bears}
-use Rattle.ledger.proofs.Holds.{held_none}
 use Rattle.table.proofs.Users.{section_is}
 use Rattle.table.specs.Tables.{ledger, held}
 use Rattle.taskset.specs.declared.set.TaskSet.{TaskSet}

@@ -1,5 +1,5 @@
 -- Slacks and first instants from what is read by the index of a task.
-use Rattle.std.proofs.Common.{◌≡◌, ℕ, ◌+◌, ◌-◌, List, length, take, ℤ, pos, sym, ap, ◌∙◌, add-sub_cancel, arith}
+use Rattle.std.proofs.Common.{◌≡◌, ℕ, ◌+◌, List, take, ℤ, pos, sym, ap, ◌∙◌, add-sub_cancel}
 use Rattle.loads.specs.Kind.{Kind}
 use Rattle.ledger.specs.Instants.{above, slack}
 use Rattle.ledger.specs.Ledger.{Ledger, rows}

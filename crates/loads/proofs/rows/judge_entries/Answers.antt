@@ -1,4 +1,4 @@
-use Rattle.std.proofs.Common.{ℕ, sym, ◌∙◌, add-one, arith, below_more}
+use Rattle.std.proofs.Common.{ℕ, sym, ◌∙◌, add-one, arith}
 use Rattle.loads.specs.LawProofs.Lowest.{lowest_all, lowest_first}
 use Rattle.loads.proofs.rows.judge_entries.Goals as goal
 

@@ -1,12 +1,12 @@
-use Rattle.std.proofs.Common.{arith}
+use Rattle.std.proofs.Common.{get_or, refl, rules}
 use Rattle.ledger.specs.Ceilings.{obstacle}
 use Rattle.ledger.specs.Ledger.{no_task}
 use Rattle.table.specs.Tables.{ledger}
-use Rattle.table.proofs.Running.{most_more, most_all}
+use Rattle.table.proofs.Chains.{most_in_range}
 use Rattle.table.proofs.table.Table.blocking_under.Goals as goal
 
-pub loop-at-preserved : goal.loop-at-preserved
-loop-at-preserved c = most_more (obstacle c.args.ceilings.now c.args.position) (ledger c.args.self.now).tasks c.args.position c.loop-at.at c.loop-at.longest c.max-longest.result no_task (omega arith) (omega (arith, c.obstacle.ensures)) c.loop-at.invariant
-
 pub returns : goal.returns
-returns c = most_all (obstacle c.args.ceilings.now c.args.position) (ledger c.args.self.now).tasks c.args.position c.loop-at.at c.loop-at.longest (omega arith) c.loop-at.invariant
+returns c =
+    let tasks = (ledger c.args.self.now).tasks in
+    let f = obstacle c.args.ceilings.now c.args.position in
+    most_in_range f tasks no_task (λ at. f (get_or tasks at no_task)) c.args.position c.count.result c.max.result c.unwrap_or.result c.max.ensures.ran c.map.ensures.source c.map.ensures.closure (λ x y q k. search rules) c.unwrap_or.ensures c.count.ensures.is (λ i low high. refl)

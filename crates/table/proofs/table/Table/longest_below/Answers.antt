@@ -1,15 +1,11 @@
-use Rattle.std.proofs.Common.{◌+◌, max, get_or, sym, ap, ◌∙◌, arith}
+use Rattle.std.proofs.Common.{◌+◌, get_or, sym, rules}
 use Rattle.ledger.specs.Ledger.{section, no_task}
-use Rattle.table.specs.Tables.{ledger}
-use Rattle.table.proofs.Running.{most_more, most_all}
+use Rattle.table.specs.Tables.{ledger, length_at}
+use Rattle.table.proofs.Chains.{most_in_range}
 use Rattle.table.proofs.Users.{section_is}
 use Rattle.table.proofs.table.Table.longest_below.Goals as goal
 
-pub loop-at-preserved : goal.loop-at-preserved
-loop-at-preserved c =
-    let tasks = (ledger c.args.self.now).tasks in
-    let larger = c.max-longest.ensures ∙ ap (λ n. max c.loop-at.longest n) (c.length.ensures ∙ sym (section_is (get_or tasks c.loop-at.at no_task) c.args.j)) in
-    most_more (λ x. section x (c.args.j + 1)) tasks c.args.position c.loop-at.at c.loop-at.longest c.max-longest.result no_task (omega arith) larger c.loop-at.invariant
-
 pub returns : goal.returns
-returns c = most_all (λ x. section x (c.args.j + 1)) (ledger c.args.self.now).tasks c.args.position c.loop-at.at c.loop-at.longest (omega arith) c.loop-at.invariant
+returns c =
+    let tasks = (ledger c.args.self.now).tasks in
+    most_in_range (λ x. section x (c.args.j + 1)) tasks no_task (λ at. length_at tasks at c.args.j) c.args.position c.count.result c.max.result c.unwrap_or.result c.max.ensures.ran c.map.ensures.source c.map.ensures.closure (λ x y q k. search rules) c.unwrap_or.ensures c.count.ensures.is (λ i low high. sym (section_is (get_or tasks i no_task) c.args.j))

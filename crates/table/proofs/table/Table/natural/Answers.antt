@@ -1,10 +1,12 @@
-use Rattle.std.proofs.Common.{sym, arith}
-use Rattle.table.specs.Tables.{ledger}
-use Rattle.table.proofs.Users.{natural_at, natural_none}
+use Rattle.std.proofs.Common.{◌≡◌, ◌<◌, rules, tests}
+use Rattle.std.proofs.lemmas.Iterator.{first_from_Range}
+use Rattle.table.specs.Tables.{ledger, length_at}
+use Rattle.table.proofs.Users.{natural_found}
 use Rattle.table.proofs.table.Table.natural.Goals as goal
 
-pub returns-then-length-gt0 : goal.returns-then-length-gt0
-returns-then-length-gt0 c = omega (arith, natural_at (ledger c.args.self.now).tasks c.args.j c.loop-at.at c.loop-at.invariant (omega arith) (omega arith))
-
 pub returns : goal.returns
-returns c = sym (natural_none (ledger c.args.self.now).tasks c.args.j (λ k h. c.loop-at.invariant k (omega arith)))
+returns c =
+    let tasks = (ledger c.args.self.now).tasks in
+    natural_found tasks c.args.j c.count.result c.map_or.result c.find.result c.count.ensures.is
+    (first_from_Range _ _ _ c.find.result (λ at. 0 < length_at tasks at c.args.j) (λ at. length_at tasks at c.args.j ≡ 0) c.find.ensures.ran (λ at q k. search (rules, tests)) (λ at q k. search (rules, tests)))
+    c.map_or.ensures (λ at k. search rules)
