@@ -95,6 +95,7 @@ fn print_figures<K: LoadKind, S: Supply>(
     rt: &impl Print,
     set: &TaskSet<K, S>,
 ) -> anyhow::Result<()> {
+    // ranges of numbers: positions and resources are what a set is asked by; `as`, since there is no `From`
     for position in 1..=set.count() as u64 {
         if let Ok((blocking, slack, first)) = set.task(position) {
             println!(rt;
@@ -103,12 +104,12 @@ fn print_figures<K: LoadKind, S: Supply>(
         }
     }
     for resource in 1..=16 {
-        if let Ok((natural, held, hold)) = set.resource(resource) {
-            if natural > 0 {
-                println!(rt;
-                    "Resource {resource}: natural ceiling {natural}, held ceiling {held}, hold time {hold}."
-                )?;
-            }
+        if let Ok((natural, held, hold)) = set.resource(resource)
+            && natural > 0
+        {
+            println!(rt;
+                "Resource {resource}: natural ceiling {natural}, held ceiling {held}, hold time {hold}."
+            )?;
         }
     }
     Ok(())

@@ -26,6 +26,7 @@ pub enum SetFault {
 
 impl SetFault {
     /// The number that the refusal is known by.
+    // A named method and no `From`: the number is part of the format of refusals, and `u64::from` would not say which number it is.
     pub fn number(&self) -> u64
         ensures { result ≡ refusal self.now }
     {

@@ -113,6 +113,7 @@ fn questions_of_insert_in_order(rt: HostRuntime) {
     assert_eq!(rt; set.insert(1, plain(1, 9), 10), Err(SetFault::Deadline));
     assert_eq!(rt; set.insert(1, plain(9, 9), 8), Err(SetFault::Unserved));
     assert_eq!(rt; set.withdraw(1), Err(SetFault::Position));
+    // a range of numbers: positions are what a set is asked by
     for position in 1..=32 {
         assert_eq!(rt; set.insert(position, plain(1, 100), 100), Ok(()));
     }

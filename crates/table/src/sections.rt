@@ -13,6 +13,7 @@ impl Table {
     {
         (0..self.count())
             .find(|at| self.length(*at, j) > 0)
+            // 0 is no position in a table of ceilings; `as`, since there is no `From`
             .map_or(0, |at| at as u64 + 1)
     }
 
@@ -39,6 +40,7 @@ impl Table {
         ensures { result ≡ obstacle ceilings.now position (slice_index_or (ledger self.now).tasks at no_task) }
     {
         (0..RESOURCES)
+            // `as`, since there is no `From`
             .filter(|j| (1..=position as u64).contains(&ceilings[*j]))
             .map(|j| self.length(at, j))
             .max()

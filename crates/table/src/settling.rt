@@ -30,6 +30,7 @@ impl Settling<'_> {
         ensures { result ≡ lower (bears (slack_at self.now.slacks.now) (ledger self.now.table.now) (j + 1)) from }
     {
         // A `while`: the number that it stops at is the answer, and a range in reverse has none to give where every position bears.
+        // `as` before and after it, since there is no `From`.
         let mut ceiling = from as usize;
         while ceiling > 1 && self.bears(ceiling - 2, self.table.longest_below(ceiling - 1, j)) {
             ceiling -= 1;

@@ -1,12 +1,15 @@
 -- What is known of a table because some history of edits has left it.
 use Rattle.std.proofs.Math.Logic.{∥∥₁_elim, ∥∥₁_map}
-use Rattle.std.proofs.Common.{◌≡◌, ℕ, ℤ, [], ◌∷◌, ◌++◌, Ok}
+use Rattle.std.proofs.Common.{◌≡◌, refl, sym, subst, IsErrAnd, Err, ℕ, ℤ, [], ◌∷◌, ◌++◌, Ok}
 use Rattle.std.proofs.Props.{props}
 use Rattle.loads.specs.Kind.{Kind}
 use Rattle.loads.specs.declared.kind.LoadKind.{Ghosts as Kinds}
 use Rattle.supplies.specs.declared.supply.Supply.{Ghosts as Supplies}
 use Rattle.ledger.specs.declared.edit.Edit.{Edit}
+use Rattle.ledger.specs.declared.fault.SetFault.{SetFault}
 use Rattle.ledger.specs.History.{Answer}
+use Rattle.ledger.specs.Questions.{FirstNo, places}
+use Rattle.ledger.proofs.Asking.{refused_early}
 use Rattle.ledger.specs.Sound.{Sound}
 use Rattle.table.specs.declared.table.Table.{Table}
 use Rattle.table.specs.Tables.{ledger, held}
@@ -15,7 +18,7 @@ use Rattle.taskset.specs.declared.set.TaskSet.{TaskSet}
 use Rattle.taskset.specs.Sets.{Untouched, GoesOn, Edited}
 use Rattle.taskset.specs.Standing.{LeftByEdits}
 use Rattle.taskset.proofs.Figured.{served_task, served_resource}
-use Rattle.taskset.proofs.Steps.{Turn}
+use Rattle.taskset.proofs.Steps.{Turn, passed_on, refused}
 
 module _ (k : Kind) (s : ℕ → ℕ) (t : Table) (left : ∥ LeftByEdits k s t ∥₁) where
   -- its numbers are within their limits
@@ -44,3 +47,12 @@ module _ {K S : Type 0} (kinds : Kinds K) (supplies : Supplies S) (e : Edit) (a 
     steps = turn.0 (left_sound (kinds.means before.kind) (supplies.gives before.supply) before.table before.left);
     goes_on = turn.1;
   }
+
+-- a refusal that is passed on leaves the set as it was
+module _ {K S : Type 0} (kinds : Kinds K) (supplies : Supplies S) (set : TaskSet K S kinds supplies) (e : Edit) (f : SetFault) (r : Answer) (failed : IsErrAnd r (λ g. g ≡ f)) where
+  pub refused_set : Turn (kinds.means set.kind) (supplies.gives set.supply) e (Err f) set.table set.table → Edited kinds supplies e r set set
+  refused_set turn = subst (λ a. Edited kinds supplies e a set set) (sym (passed_on r f failed)) (edited_set kinds supplies e (Err f) set set refl refl refl turn)
+
+  -- refused at its first questions
+  pub refused_at_once : FirstNo (places (ledger set.table) e) f → Edited kinds supplies e r set set
+  refused_at_once no' = refused_set (refused _ _ e f set.table (λ _. refused_early _ _ (ledger set.table) e f no'))

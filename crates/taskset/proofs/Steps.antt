@@ -10,16 +10,15 @@ use Rattle.ledger.specs.declared.fault.SetFault.TheVariants.{Row, Unserved}
 use Rattle.ledger.specs.History.{Answer, Step, After, Entered}
 use Rattle.ledger.specs.Instants.{job, slack, Servable}
 use Rattle.ledger.specs.Ledger.{Ledger, edited}
-use Rattle.ledger.specs.Questions.{AllYes, FirstNo, places, questions}
+use Rattle.ledger.specs.Questions.{AllYes, FirstNo, questions}
 use Rattle.ledger.specs.Settled.{lowest_table}
 use Rattle.ledger.specs.Sound.{Sound}
-use Rattle.ledger.proofs.Asking.{refused_early}
 use Rattle.ledger.proofs.Histories.{after_refused, after_taken}
 use Rattle.ledger.proofs.Kept.{insert_sound, section_sound}
 use Rattle.table.specs.declared.table.Table.{Table}
 use Rattle.table.specs.Tables.{ledger, held}
 use Rattle.taskset.specs.Reckoning.{Settled, Served}
-use Rattle.taskset.specs.Sets.{Untouched, GoesOn}
+use Rattle.taskset.specs.Sets.{GoesOn}
 
 -- a refusal that is passed on
 pub passed_on : (r : Answer) (f : SetFault) → IsErrAnd r (λ g. g ≡ f) → r ≡ Err f
@@ -42,16 +41,6 @@ module _ (k : Kind) (s : ℕ → ℕ) where
 
   pub refused : (e : Edit) (f : SetFault) (t : Table) → (Sound k (ledger t) → FirstNo (questions k s (ledger t) e) f) → Turn e (Err f) t t
   refused e f t no' = (λ ok. (no' ok, refl), λ es rs st. after_refused e f st (no' st.sound))
-
-  -- a refusal that is passed on leaves all as it was
-  pub refused_on : (e : Edit) (f : SetFault) (t : Table) (r : Answer) → IsErrAnd r (λ g. g ≡ f) → Turn e (Err f) t t → Untouched r t t × Turn e r t t
-  refused_on e f t r failed turn = subst (λ a. Untouched a t t × Turn e a t t) (sym (passed_on r f failed)) (refl, turn)
-
-  -- refused at its first questions
-  pub refused_by : (e : Edit) (f : SetFault) (t u : Table) (r : Answer) → IsErrAnd r (λ g. g ≡ f) → FirstNo (places (ledger t) e) f → u ≡ t → Untouched r t u × Turn e r t u
-  refused_by e f t u r failed no' same =
-      subst (λ v. Untouched r t v × Turn e r t v) (sym same)
-      (refused_on e f t r failed (refused e f t (λ _. refused_early k s (ledger t) e f no')))
 
   -- the entry at fault stands in the refusal
   pub row_refused : (p : ℕ) (row : List ℕ) (d : ℕ) (f : RowFault) (t x : Table) → Entered (ledger t) (Insert p row d) (Ok tt) (ledger x) → Judged (k.fault row) (Err f) → Turn (Insert p row d) (Err (Row f)) t t

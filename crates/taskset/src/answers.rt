@@ -38,6 +38,7 @@ impl<K: LoadKind, S: Supply> TaskSet<K, S> {
     {
         let task = self.at(position)?;
         let blocking = self.table.blocking(task.at + 1);
+        // 0 is what the figures of a set say where there is none
         let first = task.first_instant(blocking).unwrap_or(0);
         Ok((blocking, task.slack(), first))
     }

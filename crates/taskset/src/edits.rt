@@ -86,6 +86,7 @@ impl<K: LoadKind, S: Supply> TaskSet<K, S> {
     pub fn edit(&mut self, edit: Edit) -> Result<(), SetFault>
         ensures { Edited K.LoadKind S.Supply edit result self.old self.new }
     {
+        // a switch over data, which lists of edits hold; each arm is a method of its own
         match edit {
             Edit::Insert {
                 position,

@@ -72,6 +72,7 @@ impl<'a, K: LoadKind, S: Supply> TaskAt<'a, K, S> {
     {
         let length = self.table.length(self.at, j);
         if length == 0 {
+            // no time, as hold times count it: the task has no section to be through with
             return 0;
         }
         // `as`: Rust has no `From` of a `u64` for a `usize`

@@ -2,20 +2,15 @@ use Rattle.std.proofs.Common.{◌≤◌, Ok, Err, refl, inl, inr, arith}
 use Rattle.std.proofs.lemmas.Bool.Decides.{not_from_Decides}
 use Rattle.ledger.specs.declared.edit.Edit.TheVariants.{Insert}
 use Rattle.ledger.specs.declared.fault.SetFault.TheVariants.{Row, Deadline}
-use Rattle.taskset.proofs.Left.{left_on, edited_set}
-use Rattle.taskset.proofs.Steps.{Turn, refused, refused_on, refused_by, row_refused, insert_asked}
+use Rattle.taskset.proofs.Left.{left_on, edited_set, refused_set, refused_at_once}
+use Rattle.taskset.proofs.Steps.{Turn, refused, row_refused, insert_asked}
 use Rattle.taskset.proofs.set.TaskSet.insert.Goals as goal
 use Rattle.taskset.proofs.set.TaskSet.insert.Goals.{In_ok-self}
 use Rattle.taskset.proofs.set.TaskSet.insert.Given.{Over}
 
 pub returns-in_err-insert : goal.returns-in_err-insert
 returns-in_err-insert g c =
-    let k = g.K.LoadKind.means c.args.self.now.kind in
-    let s = g.S.Supply.gives c.args.self.now.supply in
-    let t = c.args.self.now.table in
-    let said = c.in_err-insert.ensures in
-    let (same, turn) = refused_by k s (Insert c.args.position c.args.row c.args.deadline) c.in_err-insert.field-0.0 t t c.from_residual.result c.from_residual.ensures.1 said.entered.0 refl in
-    edited_set _ _ _ _ _ _ refl refl same turn
+    refused_at_once g.K.LoadKind g.S.Supply c.args.self.now (Insert c.args.position c.args.row c.args.deadline) c.in_err-insert.field-0.0 c.from_residual.result c.from_residual.ensures.1 c.in_err-insert.ensures.entered.0
 
 pub returns-in_err-lawful : goal.returns-in_err-lawful
 returns-in_err-lawful g c =
@@ -24,8 +19,7 @@ returns-in_err-lawful g c =
     let t = c.args.self.now.table in
     let fault = c.in_err-lawful.field-0.0 in
     let refusal = row_refused k s c.args.position c.args.row c.args.deadline fault t c.insert.new.self c.in_ok-insert.ensures.entered c.in_err-lawful.ensures in
-    let (same, turn) = refused_on k s (Insert c.args.position c.args.row c.args.deadline) (Row fault) t c.from_residual-in_err-lawful.result c.from_residual-in_err-lawful.ensures.1 refusal in
-    edited_set _ _ _ _ _ _ refl refl same turn
+    refused_set g.K.LoadKind g.S.Supply c.args.self.now (Insert c.args.position c.args.row c.args.deadline) (Row fault) c.from_residual-in_err-lawful.result c.from_residual-in_err-lawful.ensures.1 refusal
 
 pub returns-then-not-from_one_to : goal.returns-then-not-from_one_to
 returns-then-not-from_one_to g c =
@@ -42,8 +36,7 @@ returns-in_err-self g c =
     let s = g.S.Supply.gives c.args.self.now.supply in
     let within = c.from_one_to.ensures.0 c.if-not-from_one_to.false in
     let turn = insert_asked k s (g.met.K.LoadKind.laws c.args.self.now.kind) c.args.position c.args.row c.args.deadline c.args.self.now.table c.insert.new.self (Err c.in_err-self.field-0.0) c.in_ok-insert.ensures.entered c.in_ok-lawful.ensures (within.0, omega (arith, within.1, c.separation.ensures)) c.in_err-self.ensures in
-    let (same, turned) = refused_on k s (Insert c.args.position c.args.row c.args.deadline) c.in_err-self.field-0.0 c.args.self.now.table c.from_residual-in_err-self.result c.from_residual-in_err-self.ensures.1 turn in
-    edited_set _ _ _ _ _ _ refl refl same turned
+    refused_set g.K.LoadKind g.S.Supply c.args.self.now (Insert c.args.position c.args.row c.args.deadline) c.in_err-self.field-0.0 c.from_residual-in_err-self.result c.from_residual-in_err-self.ensures.1 turn
 
 turn : (g : Over) (c : In_ok-self g) → Turn (g.K.LoadKind.means c.args.self.now.kind) (g.S.Supply.gives c.args.self.now.supply) (Insert c.args.position c.args.row c.args.deadline) (Ok tt) c.args.self.now.table c.in_ok-self.field-0
 turn g c =

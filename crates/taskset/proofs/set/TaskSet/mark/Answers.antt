@@ -1,18 +1,14 @@
 use Rattle.std.proofs.Common.{Ok, refl}
 use Rattle.ledger.specs.declared.edit.Edit.TheVariants.{Mark as Marked}
-use Rattle.taskset.proofs.Left.{left_on, edited_set}
-use Rattle.taskset.proofs.Steps.{Turn, refused_by, taken}
+use Rattle.taskset.proofs.Left.{left_on, edited_set, refused_at_once}
+use Rattle.taskset.proofs.Steps.{Turn, taken}
 use Rattle.taskset.proofs.set.TaskSet.mark.Goals as goal
 use Rattle.taskset.proofs.set.TaskSet.mark.Goals.{After-settled-self}
 use Rattle.taskset.proofs.set.TaskSet.mark.Given.{Over}
 
 pub returns-in_err-mark : goal.returns-in_err-mark
 returns-in_err-mark g c =
-    let k = g.K.LoadKind.means c.args.self.now.kind in
-    let s = g.S.Supply.gives c.args.self.now.supply in
-    let t = c.args.self.now.table in
-    let (same, turn) = refused_by k s (Marked c.args.resource c.args.mark) c.in_err-mark.field-0.0 t t c.from_residual.result c.from_residual.ensures.1 c.in_err-mark.ensures.entered.0 refl in
-    edited_set _ _ _ _ _ _ refl refl same turn
+    refused_at_once g.K.LoadKind g.S.Supply c.args.self.now (Marked c.args.resource c.args.mark) c.in_err-mark.field-0.0 c.from_residual.result c.from_residual.ensures.1 c.in_err-mark.ensures.entered.0
 
 turn : (g : Over) (c : After-settled-self g) → Turn (g.K.LoadKind.means c.args.self.now.kind) (g.S.Supply.gives c.args.self.now.supply) (Marked c.args.resource c.args.mark) (Ok tt) c.args.self.now.table c.settled-self.result
 turn g c =

@@ -4,28 +4,19 @@ use Rattle.ledger.specs.declared.fault.SetFault.TheVariants.{Length}
 use Rattle.ledger.specs.Instants.{job}
 use Rattle.table.specs.Tables.{ledger}
 use Rattle.taskset.proofs.Figured.{job_at}
-use Rattle.taskset.proofs.Left.{left_on, edited_set}
-use Rattle.taskset.proofs.Steps.{Turn, refused, refused_on, refused_by, section_asked}
+use Rattle.taskset.proofs.Left.{left_on, edited_set, refused_set, refused_at_once}
+use Rattle.taskset.proofs.Steps.{Turn, refused, section_asked}
 use Rattle.taskset.proofs.set.TaskSet.section.Goals as goal
 use Rattle.taskset.proofs.set.TaskSet.section.Goals.{In_ok-self}
 use Rattle.taskset.proofs.set.TaskSet.section.Given.{Over}
 
 pub returns-in_err-at : goal.returns-in_err-at
 returns-in_err-at g c =
-    let k = g.K.LoadKind.means c.args.self.now.kind in
-    let s = g.S.Supply.gives c.args.self.now.supply in
-    let t = c.args.self.now.table in
-    let (same, turn) = refused_by k s (Section c.args.position c.args.resource c.args.length) c.in_err-at.field-0.0 t t c.from_residual.result c.from_residual.ensures.1 (inl c.in_err-at.ensures) refl in
-    edited_set _ _ _ _ _ _ refl refl same turn
+    refused_at_once g.K.LoadKind g.S.Supply c.args.self.now (Section c.args.position c.args.resource c.args.length) c.in_err-at.field-0.0 c.from_residual.result c.from_residual.ensures.1 (inl c.in_err-at.ensures)
 
 pub returns-in_err-section : goal.returns-in_err-section
 returns-in_err-section g c =
-    let k = g.K.LoadKind.means c.args.self.now.kind in
-    let s = g.S.Supply.gives c.args.self.now.supply in
-    let t = c.args.self.now.table in
-    let said = c.in_err-section.ensures in
-    let (same, turn) = refused_by k s (Section c.args.position c.args.resource c.args.length) c.in_err-section.field-0.0 t t c.from_residual-in_err-section.result c.from_residual-in_err-section.ensures.1 said.entered.0 refl in
-    edited_set _ _ _ _ _ _ refl refl same turn
+    refused_at_once g.K.LoadKind g.S.Supply c.args.self.now (Section c.args.position c.args.resource c.args.length) c.in_err-section.field-0.0 c.from_residual-in_err-section.result c.from_residual-in_err-section.ensures.1 c.in_err-section.ensures.entered.0
 
 pub returns-then-length-longest : goal.returns-then-length-longest
 returns-then-length-longest g c =
@@ -43,8 +34,7 @@ returns-in_err-self g c =
     let s = g.S.Supply.gives c.args.self.now.supply in
     let short : c.args.length ≤ job (g.K.LoadKind.means c.args.self.now.kind) (ledger c.args.self.now.table) c.args.position = omega (arith, c.longest-longest.ensures, job_at g.K.LoadKind g.S.Supply c.args.self.now c.args.position c.in_ok-at.field-0 c.in_ok-at.ensures) in
     let turn = section_asked k s (g.met.K.LoadKind.laws c.args.self.now.kind) c.args.position c.args.resource c.args.length c.args.self.now.table c.section.new.self (Err c.in_err-self.field-0.0) c.in_ok-section.ensures.entered short c.in_err-self.ensures in
-    let (same, turned) = refused_on k s (Section c.args.position c.args.resource c.args.length) c.in_err-self.field-0.0 c.args.self.now.table c.from_residual-in_err-self.result c.from_residual-in_err-self.ensures.1 turn in
-    edited_set _ _ _ _ _ _ refl refl same turned
+    refused_set g.K.LoadKind g.S.Supply c.args.self.now (Section c.args.position c.args.resource c.args.length) c.in_err-self.field-0.0 c.from_residual-in_err-self.result c.from_residual-in_err-self.ensures.1 turn
 
 turn : (g : Over) (c : In_ok-self g) → Turn (g.K.LoadKind.means c.args.self.now.kind) (g.S.Supply.gives c.args.self.now.supply) (Section c.args.position c.args.resource c.args.length) (Ok tt) c.args.self.now.table c.in_ok-self.field-0
 turn g c =

@@ -1,18 +1,14 @@
 use Rattle.std.proofs.Common.{Ok, refl}
 use Rattle.ledger.specs.declared.edit.Edit.TheVariants.{Withdraw}
-use Rattle.taskset.proofs.Left.{left_on, edited_set}
-use Rattle.taskset.proofs.Steps.{Turn, refused_by, taken}
+use Rattle.taskset.proofs.Left.{left_on, edited_set, refused_at_once}
+use Rattle.taskset.proofs.Steps.{Turn, taken}
 use Rattle.taskset.proofs.set.TaskSet.withdraw.Goals as goal
 use Rattle.taskset.proofs.set.TaskSet.withdraw.Goals.{After-settled-self}
 use Rattle.taskset.proofs.set.TaskSet.withdraw.Given.{Over}
 
 pub returns-in_err-withdraw : goal.returns-in_err-withdraw
 returns-in_err-withdraw g c =
-    let k = g.K.LoadKind.means c.args.self.now.kind in
-    let s = g.S.Supply.gives c.args.self.now.supply in
-    let t = c.args.self.now.table in
-    let (same, turn) = refused_by k s (Withdraw c.args.position) c.in_err-withdraw.field-0.0 t t c.from_residual.result c.from_residual.ensures.1 c.in_err-withdraw.ensures.entered.0 refl in
-    edited_set _ _ _ _ _ _ refl refl same turn
+    refused_at_once g.K.LoadKind g.S.Supply c.args.self.now (Withdraw c.args.position) c.in_err-withdraw.field-0.0 c.from_residual.result c.from_residual.ensures.1 c.in_err-withdraw.ensures.entered.0
 
 turn : (g : Over) (c : After-settled-self g) → Turn (g.K.LoadKind.means c.args.self.now.kind) (g.S.Supply.gives c.args.self.now.supply) (Withdraw c.args.position) (Ok tt) c.args.self.now.table c.settled-self.result
 turn g c =
