@@ -3,7 +3,7 @@ ghost use Rattle.std.specs.Prelude.{◌≡◌, ◌*◌, ◌≤◌};
 ghost use Rattle.loads.specs.Codes.{framed_code};
 ghost use Rattle.loads.specs.Framed.{busiest, frame, frame_count, framed_entry, framed_formulas, frames, most_frames};
 ghost use Rattle.loads.specs.Kind.{horizon, largest_entry};
-ghost use Rattle.loads.specs.LawProofs.FramedLaws.{framed_laws};
+ghost use Rattle.loads.specs.LawProofs.FramedLaws.{framed_formula_laws};
 ghost use Rattle.std.proofs.Common.{rules};
 
 use super::guarded::ByFormulas;
@@ -94,7 +94,7 @@ impl Cycle<'_> {
 impl ByFormulas for Framed {
     ghost formulas = { λ _. framed_formulas };
 
-    ghost laws = { λ _. framed_laws };
+    ghost laws = { λ _. framed_formula_laws };
 
     fn judge(&self, row: &Row) -> Result<(), RowFault> {
         judge_entries(self, row)

@@ -2,7 +2,7 @@
 ghost use Rattle.std.specs.Prelude.{◌≡◌};
 ghost use Rattle.loads.specs.Codes.{jittered_code};
 ghost use Rattle.loads.specs.Jittered.{jittered_formulas, row_below};
-ghost use Rattle.loads.specs.LawProofs.JitteredLaws.{jittered_laws};
+ghost use Rattle.loads.specs.LawProofs.JitteredLaws.{jittered_formula_laws};
 ghost use Rattle.std.proofs.Common.{rules};
 
 use super::guarded::ByFormulas;
@@ -34,7 +34,7 @@ fn without_jitter(row: &Row) -> Row
 impl<K: LoadKind> ByFormulas for Jittered<K> {
     ghost formulas = { λ j. jittered_formulas (K.means j.below) };
 
-    ghost laws = { λ j. jittered_laws (K.means j.below) (K.laws j.below) };
+    ghost laws = { λ j. jittered_formula_laws (K.means j.below) (K.laws j.below) };
 
     fn judge(&self, row: &Row) -> Result<(), RowFault> {
         let below = without_jitter(row);

@@ -2,7 +2,7 @@
 ghost use Rattle.std.specs.Prelude.{◌≡◌};
 ghost use Rattle.loads.specs.Codes.{plain_code};
 ghost use Rattle.loads.specs.Plain.{plain_entry, plain_formulas};
-ghost use Rattle.loads.specs.LawProofs.PlainLaws.{plain_laws};
+ghost use Rattle.loads.specs.LawProofs.PlainLaws.{plain_formula_laws};
 ghost use Rattle.std.proofs.Common.{rules};
 
 use super::guarded::ByFormulas;
@@ -34,7 +34,7 @@ impl EntryRule for Plain {
 impl ByFormulas for Plain {
     ghost formulas = { λ _. plain_formulas };
 
-    ghost laws = { λ _. plain_laws };
+    ghost laws = { λ _. plain_formula_laws };
 
     fn judge(&self, row: &Row) -> Result<(), RowFault> {
         judge_entries(self, row)

@@ -2,10 +2,10 @@
 use Rattle.std.specs.Prelude.{◌≡◌, ℕ, ◌+◌, ◌*◌, ◌%◌, ◌<◌, ◌≤◌, List, slice_index, refl}
 use Rattle.std.proofs.Common.{sym, arith, mod-lt}
 use Rattle.std.proofs.lemmas.Bool.Decides.{nat_tests}
-use Rattle.loads.specs.Kind.{largest_entry}
-use Rattle.loads.specs.Framed.{framed_formulas, framed_entry, frame, frame_count, frames, largest_of, busiest, most_frames}
+use Rattle.loads.specs.Kind.{Laws, largest_entry}
+use Rattle.loads.specs.Framed.{framed, framed_formulas, framed_entry, frame, frame_count, frames, largest_of, busiest, most_frames}
 use Rattle.loads.specs.LawProofs.Frames.{frames_one, frames_high, frames_lt, largest_of_same, largest_of_high, largest_of_lt}
-use Rattle.loads.specs.LawProofs.Guarded.{Formulas, FormulaLaws}
+use Rattle.loads.specs.LawProofs.Guarded.{Formulas, FormulaLaws, guarded_laws}
 use Rattle.loads.specs.LawProofs.Lowest.{lowest_passes, lowest_le}
 use Rattle.loads.specs.LawProofs.Periodic.{Periodic, periodic_formulas}
 
@@ -45,8 +45,12 @@ module _ (row : List ℕ) (lawful : framed_formulas.fault row ≡ 0) where
   framed_lawful : Formulas framed_formulas row
   framed_lawful = periodic_formulas _ _ framed_periodic framed_formulas row (λ t. refl) (sym longest_is) refl high
 
-pub framed_laws : FormulaLaws framed_formulas
-framed_laws = record { lawful = framed_lawful; entry = λ row. lowest_le (framed_entry row) 8 }
+pub framed_formula_laws : FormulaLaws framed_formulas
+framed_formula_laws = record { lawful = framed_lawful; entry = λ row. lowest_le (framed_entry row) 8 }
+
+-- the framed kind keeps the laws of kinds
+pub framed_laws : Laws framed
+framed_laws = guarded_laws framed_formulas framed_formula_laws
 
 pub separation_low : (row : List ℕ) → framed_formulas.fault row ≡ 0 → 1 ≤ slice_index row 0
 separation_low row lawful = (framed_periodic row lawful).period_low

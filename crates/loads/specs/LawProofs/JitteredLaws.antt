@@ -3,8 +3,8 @@ use Rattle.std.specs.Prelude.{◌≡◌, ℕ, ◌+◌, ◌<◌, ◌≤◌, List,
 use Rattle.std.proofs.Common.{◌∙◌, arith, get_or-set_other}
 use Rattle.std.proofs.lemmas.Bool.Decides.{nat_tests}
 use Rattle.loads.specs.Kind.{Kind, Load, Laws}
-use Rattle.loads.specs.Jittered.{jittered_formulas, jittered_fault, jitter, row_below}
-use Rattle.loads.specs.LawProofs.Guarded.{Formulas, FormulaLaws}
+use Rattle.loads.specs.Jittered.{jittered, jittered_formulas, jittered_fault, jitter, row_below}
+use Rattle.loads.specs.LawProofs.Guarded.{Formulas, FormulaLaws, guarded_laws}
 
 module _ (k : Kind) (laws : Laws k) where
   entry_named : (row : List ℕ) → jittered_fault k row ≤ 8
@@ -42,5 +42,9 @@ module _ (k : Kind) (laws : Laws k) where
           small = λ i less. grind (arith, get_or-set_other row 7 i 0 0, load.small i less, load.separation_high);
         }
 
-  pub jittered_laws : FormulaLaws (jittered_formulas k)
-  jittered_laws = record { lawful = jittered_lawful; entry = entry_named }
+  pub jittered_formula_laws : FormulaLaws (jittered_formulas k)
+  jittered_formula_laws = record { lawful = jittered_lawful; entry = entry_named }
+
+  -- a jittered kind keeps the laws of kinds, over any kind that does
+  pub jittered_laws : Laws (jittered k)
+  jittered_laws = guarded_laws (jittered_formulas k) jittered_formula_laws

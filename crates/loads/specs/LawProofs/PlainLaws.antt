@@ -3,9 +3,9 @@ use Rattle.std.specs.Prelude.{◌≡◌, ℕ, ◌*◌, ◌<◌, ◌≤◌, List,
 use Rattle.std.proofs.Common.{sym, arith, zero-mul, one-mul, mul-lt-mul_of_pos_right}
 use Rattle.std.proofs.lemmas.Nat.{mul-le}
 use Rattle.std.proofs.lemmas.Bool.Decides.{nat_tests}
-use Rattle.loads.specs.Kind.{horizon, largest_entry, most_work}
-use Rattle.loads.specs.Plain.{plain_formulas, plain_entry}
-use Rattle.loads.specs.LawProofs.Guarded.{Formulas, FormulaLaws}
+use Rattle.loads.specs.Kind.{Laws, horizon, largest_entry, most_work}
+use Rattle.loads.specs.Plain.{plain, plain_formulas, plain_entry}
+use Rattle.loads.specs.LawProofs.Guarded.{Formulas, FormulaLaws, guarded_laws}
 use Rattle.loads.specs.LawProofs.Lowest.{lowest_passes, lowest_le}
 use Rattle.loads.specs.LawProofs.Periodic.{Periodic, periodic_formulas}
 
@@ -28,8 +28,12 @@ module _ (row : List ℕ) (lawful : plain_formulas.fault row ≡ 0) where
   plain_lawful : Formulas plain_formulas row
   plain_lawful = periodic_formulas _ _ plain_periodic plain_formulas row (λ t. refl) (sym (one-mul (slice_index row 0))) refl high
 
-pub plain_laws : FormulaLaws plain_formulas
-plain_laws = record { lawful = plain_lawful; entry = λ row. lowest_le (plain_entry row) 8 }
+pub plain_formula_laws : FormulaLaws plain_formulas
+plain_formula_laws = record { lawful = plain_lawful; entry = λ row. lowest_le (plain_entry row) 8 }
+
+-- the plain kind keeps the laws of kinds
+pub plain_laws : Laws plain
+plain_laws = guarded_laws plain_formulas plain_formula_laws
 
 pub separation_low : (row : List ℕ) → plain_formulas.fault row ≡ 0 → 1 ≤ slice_index row 1
 separation_low row lawful = (plain_periodic row lawful).period_low
