@@ -15,7 +15,7 @@ impl<K: LoadKind, S: Supply> Level<'_, K, S> {
         ensures earliest { Earliest (level_covered K.means S.gives self.now base) limit result }
     {
         let mut t = 1;
-        // Loops, and no chains: both are left as soon as the answer is known.
+        // Loops, one in the other, as the search is defined: both are left as soon as the answer is known.
         'instants: loop {
             if t > limit {
                 break 'instants None;

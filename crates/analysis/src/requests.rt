@@ -4,9 +4,8 @@ ghost use Rattle.analysis.specs.Instants.{most_requested, requests, work_of};
 
 use super::level::Level;
 use loads::LoadKind;
-use supplies::Supply;
 
-impl<K: LoadKind, S: Supply> Level<'_, K, S> {
+impl<K: LoadKind, S> Level<'_, K, S> {
     /// The most work that the rows above can ask for in `t` ticks, together.
     pub fn requested(&self, t: u64) -> u128
         ensures is { result ≡ requests (K.means self.now.kind.now) self.now.above.now t }

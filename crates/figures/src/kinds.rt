@@ -1,20 +1,7 @@
 //! Figures of load kinds.
+use super::checks::answers;
 use loads::{Framed, Jittered, ListedKind, LoadKind, Plain, Row, RowFault};
 use std::process::Abort;
-
-/// Checks the requests of a row at some instants.
-fn requests<K: LoadKind>(rt: &impl Abort, kind: &K, row: &Row, expected: &[(u64, u64)]) {
-    for (t, request) in expected.iter() {
-        assert_eq!(rt; kind.request(row, *t), *request);
-    }
-}
-
-/// Checks until when the requests of a row last from some instants on.
-fn untils<K: LoadKind>(rt: &impl Abort, kind: &K, row: &Row, expected: &[(u64, u64)]) {
-    for (t, until) in expected.iter() {
-        assert_eq!(rt; kind.until(row, *t), *until);
-    }
-}
 
 /// Checks that the entry at fault is named in each row, and that each stands for no work.
 fn faults<K: LoadKind>(rt: &impl Abort, kind: &K, expected: &[(Row, u64)]) {
@@ -36,10 +23,9 @@ fn plain(rt: HostRuntime) {
         Ok(())
     );
     assert_eq!(rt; (Plain.longest(&row), Plain.separation(&row)), (2, 10));
-    requests(
+    answers(
         &rt,
-        &Plain,
-        &row,
+        |t| Plain.request(&row, t),
         &[
             (0, 0),
             (1, 2),
@@ -50,10 +36,9 @@ fn plain(rt: HostRuntime) {
             (5_000_000, 400_000),
         ],
     );
-    untils(
+    answers(
         &rt,
-        &Plain,
-        &row,
+        |t| Plain.until(&row, t),
         &[
             (0, 0),
             (1, 10),
@@ -62,10 +47,9 @@ fn plain(rt: HostRuntime) {
             (5_000_000, 2_000_000),
         ],
     );
-    untils(
+    answers(
         &rt,
-        &Plain,
-        &[1, 7, 0, 0, 0, 0, 0, 0],
+        |t| Plain.until(&[1, 7, 0, 0, 0, 0, 0, 0], t),
         &[(7, 7), (8, 14), (1_999_999, 2_000_000)],
     );
     faults(
@@ -87,10 +71,9 @@ fn framed(rt: HostRuntime) {
     let row = [10, 3, 4, 1, 2, 0, 0, 0];
     assert_eq!(rt; Framed.lawful(&row), Ok(()));
     assert_eq!(rt; (Framed.longest(&row), Framed.separation(&row)), (4, 10));
-    requests(
+    answers(
         &rt,
-        &Framed,
-        &row,
+        |t| Framed.request(&row, t),
         &[
             (0, 0),
             (10, 4),
@@ -100,10 +83,9 @@ fn framed(rt: HostRuntime) {
             (2_000_000, 466_668),
         ],
     );
-    untils(
+    answers(
         &rt,
-        &Framed,
-        &row,
+        |t| Framed.until(&row, t),
         &[(0, 0), (11, 20), (2_000_000, 2_000_000)],
     );
     faults(
@@ -128,16 +110,14 @@ fn jittered(rt: HostRuntime) {
     let row = [2, 10, 0, 0, 0, 0, 0, 3];
     assert_eq!(rt; kind.lawful(&row), Ok(()));
     assert_eq!(rt; (kind.longest(&row), kind.separation(&row)), (2, 7));
-    requests(
+    answers(
         &rt,
-        &kind,
-        &row,
+        |t| kind.request(&row, t),
         &[(0, 0), (1, 2), (7, 2), (8, 4), (17, 4), (18, 6)],
     );
-    untils(
+    answers(
         &rt,
-        &kind,
-        &row,
+        |t| kind.until(&row, t),
         &[
             (0, 0),
             (1, 7),
@@ -158,7 +138,7 @@ fn jittered(rt: HostRuntime) {
         ],
     );
     let pile = Jittered { below: kind };
-    requests(&rt, &pile, &row, &[(0, 0), (7, 2), (8, 4)]);
+    answers(&rt, |t| pile.request(&row, t), &[(0, 0), (7, 2), (8, 4)]);
     assert_eq!(rt; pile.separation(&row), 7);
 }
 

@@ -1,27 +1,13 @@
 //! Figures of supplies.
-use std::process::Abort;
+use super::checks::answers;
 use std::test::Fail;
 use supplies::{ListedSupply, Share, Supply, SupplyFault, Whole};
 
-/// Checks what is supplied at some instants.
-fn supplies<S: Supply>(rt: &impl Abort, supply: &S, expected: &[(u64, u64)]) {
-    for (t, supplied) in expected.iter() {
-        assert_eq!(rt; supply.supplied(*t), *supplied);
-    }
-}
-
-/// Checks when some amounts are reached.
-fn reached<S: Supply>(rt: &impl Abort, supply: &S, expected: &[(u64, Option<u64>)]) {
-    for (w, when) in expected.iter() {
-        assert_eq!(rt; supply.when(*w), *when);
-    }
-}
-
 #[test]
 fn whole(rt: HostRuntime) {
-    supplies(
+    answers(
         &rt,
-        &Whole,
+        |t| Whole.supplied(t),
         &[
             (0, 0),
             (7, 7),
@@ -29,9 +15,9 @@ fn whole(rt: HostRuntime) {
             (1_000_001, 1_000_000),
         ],
     );
-    reached(
+    answers(
         &rt,
-        &Whole,
+        |t| Whole.when(t),
         &[
             (0, Some(0)),
             (1_000_000, Some(1_000_000)),
@@ -46,9 +32,9 @@ fn share(rt: HostRuntime) -> Result<(), Fail> {
     let Ok(share) = Share::new(4, 10) else {
         return Err(Fail::new("4 in 10 is a share"));
     };
-    supplies(
+    answers(
         &rt,
-        &share,
+        |t| share.supplied(t),
         &[
             (0, 0),
             (12, 0),
@@ -61,9 +47,9 @@ fn share(rt: HostRuntime) -> Result<(), Fail> {
             (9_000_000, 399_996),
         ],
     );
-    reached(
+    answers(
         &rt,
-        &share,
+        |t| share.when(t),
         &[
             (0, Some(0)),
             (1, Some(13)),
@@ -82,12 +68,12 @@ fn share_of_all(rt: HostRuntime) -> Result<(), Fail> {
     let Ok(share) = Share::new(5, 5) else {
         return Err(Fail::new("5 in 5 is a share"));
     };
-    supplies(
+    answers(
         &rt,
-        &share,
+        |t| share.supplied(t),
         &[(0, 0), (1, 1), (7, 7), (2_000_000, 1_000_000)],
     );
-    reached(&rt, &share, &[(7, Some(7)), (1_000_001, None)]);
+    answers(&rt, |t| share.when(t), &[(7, Some(7)), (1_000_001, None)]);
     Ok(())
 }
 

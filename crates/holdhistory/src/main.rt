@@ -91,6 +91,7 @@ impl fmt::Display for Answered<'_> {
 }
 
 /// Prints the figures of every task and of every resource that is in use.
+// printed line by line: the figures are a tuple, and no type of theirs has a text
 fn print_figures<K: LoadKind, S: Supply>(
     rt: &impl Print,
     set: &TaskSet<K, S>,
@@ -118,6 +119,7 @@ fn print_figures<K: LoadKind, S: Supply>(
 /// Replays the example, and prints it.
 fn run(rt: &impl Print) -> anyhow::Result<()> {
     let edits = example();
+    // beside the edits, as `replay` is lent room for an answer to each
     let mut answers = [Ok(()); 8];
     if let Some(set) = replay(Plain, Whole, &edits, &mut answers) {
         for (edit, answer) in edits.iter().zip(answers.iter()) {

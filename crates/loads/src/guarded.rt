@@ -1,4 +1,4 @@
-//! The guard, said once for every kind by formulas: an unlawful row stands for no work, and a later instant counts as the horizon.
+//! The guard, said once for every kind by formulas.
 ghost use Rattle.std.specs.Prelude.{◌≡◌, ◌≤◌};
 ghost use Rattle.loads.specs.Kind.{Kind, Until, guarded, horizon};
 ghost use Rattle.loads.specs.LawProofs.Guarded.{FormulaLaws, guarded_laws};
@@ -43,7 +43,8 @@ pub(crate) trait ByFormulas {
     ghost laws: { (k : Self) → FormulaLaws (formulas k) };
 }
 
-// the 0 is an amount and no code: an unlawful row stands for no work
+/// An unlawful row stands for no work, and a later instant counts as the horizon.
+// the 0 is an amount, of no work; of `until` it is what `LoadKind` promises of an unlawful row
 impl<F: ByFormulas> LoadKind for F {
     ghost means = { λ k. guarded (F.formulas k) };
 
@@ -62,7 +63,7 @@ impl<F: ByFormulas> LoadKind for F {
             .map_or(0, |()| self.separation_of_lawful(row))
     }
 
-    // `request` and `until` are one guard with two formulas
+    // `request` and `until` differ in their formula alone: a guard that takes it as a closure would save no line
     fn request(&self, row: &Row, t: u64) -> u64 {
         let instant = t.min(HORIZON);
         self.judge(row)

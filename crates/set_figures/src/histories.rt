@@ -1,5 +1,6 @@
 //! Whole histories of edits, refusals among them, over several kinds and supplies, and a replay into lent room. Every answer and figure of the histories was reckoned apart from
 //! this code, tick by tick from the model, with every fitting table of ceilings tried.
+use super::checks;
 use ledger::{Edit, Mark, SetFault};
 use loads::{Framed, Jittered, LoadKind, Plain, Row, RowFault};
 use std::process::Abort;
@@ -44,10 +45,7 @@ fn history<K: LoadKind + Drop, S: Supply + Drop>(
     for (edit, answer) in steps {
         assert_eq!(rt; set.edit(*edit), *answer);
     }
-    assert_eq!(rt; set.count(), tasks.len());
-    for (at, figures) in tasks.iter().enumerate() {
-        assert_eq!(rt; set.task(at as u64 + 1), Ok(*figures));
-    }
+    checks::tasks(rt, &set, tasks);
     assert_eq!(rt; set.resource(1), Ok(resources[0]));
     assert_eq!(rt; set.resource(2), Ok(resources[1]));
     assert_eq!(rt; set.resource(16), Ok(resources[2]));

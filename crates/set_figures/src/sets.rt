@@ -1,4 +1,5 @@
 //! Figures of task sets: blocking, slack and first instants of tasks, ceilings and hold times of resources.
+use super::checks;
 use ledger::{Mark, SetFault};
 use loads::{LoadKind, Plain, Row, RowFault};
 use std::process::Abort;
@@ -29,10 +30,7 @@ fn figures<K: LoadKind, S: Supply>(
     tasks: &[(u64, i64, u64)],
     resources: [(u64, u64, u64); 2],
 ) {
-    assert_eq!(rt; set.count(), tasks.len());
-    for (at, figures) in tasks.iter().enumerate() {
-        assert_eq!(rt; set.task(at as u64 + 1), Ok(*figures));
-    }
+    checks::tasks(rt, set, tasks);
     assert_eq!(rt; set.resource(1), Ok(resources[0]));
     assert_eq!(rt; set.resource(2), Ok(resources[1]));
 }

@@ -1,8 +1,8 @@
 //! A share of the processor (the periodic resource model).
-ghost use Rattle.std.specs.Prelude.{◌≡◌, ◌<◌, ◌≤◌, MatchResult};
+ghost use Rattle.std.specs.Prelude.{◌≡◌, ◌≤◌, MatchResult};
 ghost use Rattle.supplies.specs.Codes.{share_code};
 ghost use Rattle.supplies.specs.Shares.{LawfulShare, longest_period, share};
-ghost use Rattle.supplies.specs.Supplied.{Reached, last_instant};
+ghost use Rattle.supplies.specs.Supplied.{When, last_instant};
 ghost use Rattle.supplies.specs.LawProofs.ShareLaws.{share_laws, share_listed};
 ghost use Rattle.std.proofs.Common.{rules};
 
@@ -38,16 +38,16 @@ impl Share {
         }
     }
 
-    /// The first instant at which `w` ticks are reached, or an instant past the last one where they never are.
-    fn reaching(&self, w: u64) -> u64
+    /// The first instant at which `w` ticks are reached, or none where they never are.
+    fn reaching(&self, w: u64) -> Option<u64>
         requires low { 1 ≤ w }
         requires high { w ≤ last_instant }
-        ensures early { result ≤ last_instant → Reached (share self.now.budget self.now.period) w result }
-        ensures late { last_instant < result → share self.now.budget self.now.period last_instant < w }
+        ensures { When (share self.now.budget self.now.period) w result }
     {
         let gap = self.period - self.budget;
         let full = (w - 1) / self.budget;
-        full * self.period + 2 * gap + (w - full * self.budget)
+        let at = full * self.period + 2 * gap + (w - full * self.budget);
+        (at <= LAST_INSTANT).then_some(at)
     }
 }
 
@@ -79,8 +79,7 @@ impl Supply for Share {
         if w > LAST_INSTANT {
             return None;
         }
-        let at = self.reaching(w);
-        (at <= LAST_INSTANT).then_some(at)
+        self.reaching(w)
     }
 }
 

@@ -11,6 +11,7 @@ use crate::table::{RESOURCES, TASKS, Table};
 use ledger::{Mark, SetFault};
 use loads::Row;
 
+// `Unsettled` is the one name for what each of the four leaves of a table
 impl Table {
     /// Puts a task in at a position; later tasks move down. All ceilings are then to be settled.
     #[tactic(auto, using(crate::proofs::FlatTasks::inserting))]

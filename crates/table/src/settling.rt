@@ -29,7 +29,7 @@ impl Settling<'_> {
         requires { from ≤ length (ledger self.now.table.now).tasks }
         ensures { result ≡ lower (bears (slack_at self.now.slacks.now) (ledger self.now.table.now) (j + 1)) from }
     {
-        // A `while`: the number that it stops at is the answer, and a range in reverse has none to give where every position bears.
+        // A `while`: the number that it stops at is the answer; a search through a range would find nothing where every position bears.
         // `as` before and after it, since there is no `From`.
         let mut ceiling = from as usize;
         while ceiling > 1 && self.bears(ceiling - 2, self.table.longest_below(ceiling - 1, j)) {
@@ -55,7 +55,7 @@ impl Settling<'_> {
     fn lowest_ceilings(&self) -> [u64; 16]
         ensures { result ≡ lowest_table (slack_at self.now.slacks.now) (ledger self.now.table.now) }
     {
-        // A `for`: each resource is settled by itself, under its own mark.
+        // A `for` over the resources with their index, as settling is laid down: each by itself, under its own mark.
         let mut ceilings = [0; 16];
         for (j, mark) in self.table.marks.iter().enumerate() {
             ceilings[j] = self.lowest(j, *mark);
@@ -75,6 +75,7 @@ impl Settling<'_> {
     }
 }
 
+// Callers hold a table and slacks apart: these two are the way in to `Settling`.
 impl Table {
     /// Settles every ceiling afresh, as low as the slacks of the tasks, by their indices, allow.
     #[tactic(auto, using(ledger::proofs::Lowest::lowest_natural))]

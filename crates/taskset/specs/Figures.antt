@@ -51,7 +51,7 @@ module _ (k : Kind) (s : ℕ → ℕ) (l : Ledger) (c : List ℕ) where
   ServedResource j (Ok x) = (p : ℕ) → AtTask l p → 0 < section (task l p) j → Held k s l c j (task l p)
   ServedResource j (Err f) = Unit {0}
 
--- ---- of a set
+-- ---- of a set, by what the two traits say of its kind and its supply
 
 module _ {K S : Type 0} (kinds : Kinds K) (supplies : Supplies S) (set : TaskSet K S kinds supplies) where
   -- what its kind means

@@ -20,7 +20,8 @@ module _ (k : Kind) (s : ℕ → ℕ) where
     pub entries : ledger after ≡ ledger before
     pub ceilings : held after ≡ lowest_table (slack k s (ledger before)) (ledger before)
 
-  -- the answer to whether an edited table can be served: it with the lowest ceilings, where some table of ceilings fits and serves, and a refusal where none does; of a ledger whose numbers are within their limits
+  -- the answer to whether an edited table can be served: the table with the lowest ceilings, or a refusal
+  -- where the ledger's numbers are within their limits, it is refused exactly where no table of ceilings fits and serves
   abbrev pub Served : Table → Result Table SetFault → Type 0
   Served edited (Ok after) = Settled edited after × (Sound k (ledger edited) → Servable k s (ledger edited))
   Served edited (Err f) = (f ≡ Unserved) × (Sound k (ledger edited) → Servable k s (ledger edited) → ⊥)

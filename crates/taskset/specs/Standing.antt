@@ -1,4 +1,4 @@
--- What a table is after a history of edits.
+-- What a table is after a history of edits: apart from what names the set, whose ghost field cites it.
 use Rattle.std.specs.Prelude.{ℕ, List}
 use Rattle.loads.specs.Kind.{Kind}
 use Rattle.ledger.specs.declared.edit.Edit.{Edit}

@@ -48,6 +48,7 @@ impl<K: LoadKind, S: Supply> TaskSet<K, S> {
         requires { at < length (ledger self.now.table).tasks }
         ensures { result ≡ held_by K.LoadKind S.Supply self.now (j + 1) (slice_index_or (ledger self.now.table).tasks at no_task) }
     {
+        // by its parts, as in `at`: behind a call a proof would not see whose task it is
         let task = TaskAt {
             kind: &self.kind,
             supply: &self.supply,

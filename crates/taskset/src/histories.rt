@@ -20,7 +20,7 @@ pub fn replay<K: LoadKind + Drop, S: Supply + Drop>(
         return None;
     }
     let mut set = TaskSet::new(kind, supply);
-    // by index: of what is written through `iter_mut` a proof knows nothing afterwards
+    // by index: after an adapter of `iter_mut`, as a `zip` with the edits, a proof knows nothing of what was written
     for (i, edit) in edits.iter().enumerate() {
         answers[i] = set.edit(*edit);
     }

@@ -13,7 +13,7 @@ pub(crate) fn slacks<K: LoadKind, S: Supply>(kind: &K, supply: &S, table: &Table
     ensures { Slacks (K.means kind.now) (S.gives supply.now) (ledger table.now) result }
 {
     let mut slacks: [i64; 32] = [0; 32];
-    // by index: the first places of a fixed array are filled, one for each task
+    // by index: the first places of a fixed array are filled, one for each task; `from_fn` would have to tell absent tasks apart
     for at in 0..table.count() {
         let task = TaskAt {
             kind,

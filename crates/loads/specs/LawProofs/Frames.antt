@@ -95,6 +95,9 @@ largest_of_lt f g zero p h = omega arith
 largest_of_lt f g (suc zero) p h = omega (arith, h 0)
 largest_of_lt f g (suc (suc n)) p h = omega (arith, largest_of_lt f g (suc n) (omega arith) h, h (suc n))
 
+pub largest_of_more : (f : ℕ → ℕ) (n : ℕ) → largest_of f (n + 1) ≡ max (largest_of f n) (f n)
+largest_of_more f n = ap (largest_of f) (add-one n)
+
 largest_of_front : (f : ℕ → ℕ) (n : ℕ) → largest_of f (suc n) ≡ max (f 0) (largest_of (λ s. f (suc s)) n)
 largest_of_front f zero = omega arith
 largest_of_front f (suc n) = omega (arith, largest_of_front f n)

@@ -4,6 +4,13 @@ use Rattle.std.proofs.Common.{ap, arith}
 use Rattle.std.proofs.lemmas.Bool.Decides.{nat_tests}
 use Rattle.loads.specs.Kind.{Kind, Load, NoLoad, Laws, guarded, if_lawful, horizon, largest_entry, most_work}
 
+-- the guard, by cases
+pub lawful_is : (k : Kind) (row : List ℕ) (x : ℕ) → k.fault row ≡ 0 → if_lawful k row x ≡ x
+lawful_is k row x e = grind (arith, nat_tests)
+
+pub unlawful_is : (k : Kind) (row : List ℕ) (x : ℕ) → k.fault row ≢ 0 → if_lawful k row x ≡ 0
+unlawful_is k row x e = grind (arith, nat_tests)
+
 -- what the formulas of a kind keep on a lawful row
 pub record Formulas (k : Kind) (row : List ℕ) : Type 0 where
   pub starts : k.request row 0 ≡ 0

@@ -2,7 +2,7 @@
 use Rattle.std.specs.Prelude.{◌≡◌, ℕ, ◌+◌, ◌<◌, ◌≤◌, List, refl}
 use Rattle.std.proofs.Common.{◌∙◌, arith, get_or-set_other}
 use Rattle.std.proofs.lemmas.Bool.Decides.{nat_tests}
-use Rattle.loads.specs.Kind.{Kind, Load, Laws}
+use Rattle.loads.specs.Kind.{Kind, Load, Laws, largest_entry}
 use Rattle.loads.specs.Jittered.{jittered, jittered_formulas, jittered_fault, jitter, row_below}
 use Rattle.loads.specs.LawProofs.Guarded.{Formulas, FormulaLaws, guarded_laws}
 
@@ -19,6 +19,9 @@ module _ (k : Kind) (laws : Laws k) where
 
     load : Load k (row_below row)
     load = laws.lawful (row_below row) lawful_below
+
+    pub jitter_under : jitter row < largest_entry
+    jitter_under = omega (arith, jitter_small, load.separation_high)
 
     abbrev pub asks : ℕ → ℕ
     asks t = (jittered_formulas k).request row t

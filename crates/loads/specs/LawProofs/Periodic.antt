@@ -1,10 +1,14 @@
 -- Loads whose work depends only on how many periods have begun: their laws.
-use Rattle.std.specs.Prelude.{◌≡◌, ℕ, ◌*◌, ◌<◌, ◌≤◌, List, slice_index}
+use Rattle.std.specs.Prelude.{◌≡◌, ℕ, ◌*◌, ◌<◌, ◌≤◌, min, List, slice_index}
 use Rattle.std.proofs.Common.{ap, ◌∙◌, arith}
 use Rattle.numbers.specs.Rounding.{rounded_up}
 use Rattle.numbers.proofs.Roundings.{rounded_up_mono, rounded_up_zero, rounded_up_one, rounded_up_self}
 use Rattle.loads.specs.Kind.{Kind, horizon, largest_entry, most_work}
 use Rattle.loads.specs.LawProofs.Guarded.{Formulas}
+
+-- no more periods begin than ticks go by
+pub periods_few : (n t d : ℕ) → 1 ≤ d → n ≡ rounded_up (min t horizon) d → n ≤ horizon
+periods_few n t d low e = omega (arith, rounded_up_self (min t horizon) d low)
 
 -- work n is what n jobs come to, one in each period
 pub record Periodic (work : ℕ → ℕ) (period : ℕ) : Type 0 where

@@ -1,8 +1,9 @@
 -- A supply that is made from a formula keeps the laws of supplies, once the formula keeps them up to the last instant.
-use Rattle.std.specs.Prelude.{◌≡◌, ℕ, suc, ◌+◌, ◌<◌, ◌≤◌}
-use Rattle.std.proofs.Common.{ap, inl, inr, ⊎_elim, arith}
-use Rattle.std.proofs.lemmas.Bool.{cases_lt}
-use Rattle.supplies.specs.Supplied.{Laws, Reached, up_to_last, last_instant}
+use Rattle.std.specs.Prelude.{◌≡◌, ℕ, suc, ◌+◌, ◌<◌, ◌≤◌, nat_le}
+use Rattle.std.specs.Bool.{then_some}
+use Rattle.std.proofs.Common.{ap, sym, subst, inl, inr, ⊎_elim, arith}
+use Rattle.std.proofs.lemmas.Bool.{cases_lt, lt-leb, le-leb}
+use Rattle.supplies.specs.Supplied.{Laws, Reached, When, up_to_last, last_instant}
 
 -- one more tick gives nothing or one more
 pub record Steady (f : ℕ → ℕ) (t : ℕ) : Type 0 where
@@ -37,3 +38,11 @@ module _ (f : ℕ → ℕ) where
     reaches = omega (arith, inside t within);
     before = λ u h. omega (arith, inside u (omega arith), before u h);
   }
+
+  -- where f reaches w first at t, that is the answer up to the last instant, and none past it
+  pub when_at : (w t : ℕ) → w ≤ f t → ((u : ℕ) → u < t → f u < w) → When (up_to_last f) w (then_some (nat_le t last_instant) t)
+  when_at w t reaches before =
+      ⊎_elim
+      (λ (late : last_instant < t). subst (λ b. When (up_to_last f) w (then_some b t)) (sym (lt-leb t last_instant late)) (before last_instant late))
+      (λ (early : t ≤ last_instant). subst (λ b. When (up_to_last f) w (then_some b t)) (sym (le-leb t last_instant early)) (reached_at w t early reaches before))
+      (cases_lt last_instant t)

@@ -120,6 +120,9 @@ module _ (q p : ℕ) (lo : 1 ≤ q) (hi : q ≤ p) where
     full_high : w ≤ full * q + q
     full_high = omega (arith, div-add-mod' (w - 1) q, mod_below (w - 1) q lo)
 
+    pub at_least : w ≤ at w
+    at_least = omega (arith, full_low, mul-le full q full p (omega arith) hi)
+
     pub reached : f (at w) ≡ w
     reached = omega (arith, full_low, share_at (at w) full (λ _. omega (arith, full_low)) (omega (arith, full_low, full_high, one_more full p)))
 
