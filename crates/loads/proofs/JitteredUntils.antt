@@ -1,7 +1,8 @@
 -- How long the request of a jittered row lasts.
 use Rattle.std.proofs.Common.{◌≡◌, ℕ, ◌+◌, ◌-◌, ◌<◌, ◌≤◌, ◌≢◌, min, List, refl, sym, ap, subst, ◌∙◌, arith}
 use Rattle.loads.specs.Kind.{Kind, Laws, Until, horizon}
-use Rattle.loads.specs.Jittered.{jittered_formulas, jitter, row_below}
+use Rattle.loads.specs.Jittered.{jittered, jittered_formulas, jitter, row_below}
+use Rattle.loads.specs.LawProofs.Guarded.{guarded_until}
 use Rattle.loads.specs.LawProofs.JitteredLaws.{asks, asks_is, jittered_lawful, lawful_below}
 
 module _ (k : Kind) (laws : Laws k) (row : List ℕ) (lawful : (jittered_formulas k).fault row ≡ 0) where
@@ -14,6 +15,10 @@ module _ (k : Kind) (laws : Laws k) (row : List ℕ) (lawful : (jittered_formula
         same = ap (asks k laws row lawful) (sym none);
         greatest = λ v above fits same. omega (arith, ap (asks k laws row lawful) none, f.starts, f.rises 1 v above fits, f.first_job 1 (omega arith) f.separation_low, f.longest_low);
       }
+
+  -- so it is of the jittered kind
+  pub jittered_until_zero : (t : ℕ) → t ≤ 0 → Until horizon ((jittered k).request row) t 0
+  jittered_until_zero t none = guarded_until (jittered_formulas k) row t 0 lawful (until_zero (min t horizon) (omega arith))
 
   -- where the request below changes after u, within the horizon: the kind below answered u, asked of the row b
   module _ (b : List ℕ) (t u : ℕ) (same_row : b ≡ row_below row) (some : t ≢ 0) (answer : k.fault b ≡ 0 → Until horizon (k.request b) (t + jitter row) u) (changes : u ≢ horizon) where
@@ -43,3 +48,9 @@ module _ (k : Kind) (laws : Laws k) (row : List ℕ) (lawful : (jittered_formula
               omega (arith, is t (omega arith), is (u - jitter row) (omega arith), lasts.same);
           greatest = λ v above fits same. changed (v + jitter row) (omega arith) (omega (arith, is t (omega arith), is v (omega arith)));
         }
+
+  module _ (b : List ℕ) (m t u : ℕ) (same_row : b ≡ row_below row) (same_instant : m ≡ min t horizon) (some : 1 ≤ t) (answer : k.fault b ≡ 0 → Until horizon (k.request b) (m + jitter row) u) (changes : u ≢ horizon) where
+    pub jittered_until_some : Until horizon ((jittered k).request row) t (u - jitter row)
+    jittered_until_some =
+        let P : ℕ → Type 0 = λ v. Until horizon ((jittered_formulas k).request row) v (u - jitter row) in
+        guarded_until (jittered_formulas k) row t (u - jitter row) lawful (subst P same_instant (until_some b m u same_row (λ none. omega (arith, none)) answer changes))

@@ -2,7 +2,7 @@
 use Rattle.std.specs.Prelude.{◌≡◌, ℕ, ◌<◌, ◌≤◌, min, ◌≢◌, List, slice_index}
 use Rattle.std.proofs.Common.{ap, arith}
 use Rattle.std.proofs.lemmas.Bool.Decides.{nat_tests}
-use Rattle.loads.specs.Kind.{Kind, Load, NoLoad, Laws, guarded, if_lawful, horizon, largest_entry, most_work}
+use Rattle.loads.specs.Kind.{Kind, Until, Load, NoLoad, Laws, guarded, if_lawful, horizon, largest_entry, most_work}
 
 -- the guard, by cases
 pub lawful_is : (k : Kind) (row : List ℕ) (x : ℕ) → k.fault row ≡ 0 → if_lawful k row x ≡ x
@@ -56,3 +56,14 @@ guarded_laws k laws = record {
   entry = laws.entry;
   late = λ row t. ap (λ u. if_lawful k row (k.request row u)) (omega arith);
 }
+
+-- an instant is the last with its request where it is so by the formulas
+pub guarded_until : (k : Kind) (row : List ℕ) (t u : ℕ) → k.fault row ≡ 0 → Until horizon (k.request row) (min t horizon) u → Until horizon ((guarded k).request row) t u
+guarded_until k row t u e l =
+    let at : (v : ℕ) → (guarded k).request row v ≡ k.request row (min v horizon) = λ v. lawful_is k row (k.request row (min v horizon)) e in
+    let inside : (v : ℕ) → v ≤ horizon → k.request row (min v horizon) ≡ k.request row v = λ v h. ap (k.request row) (omega arith) in
+    record {
+      within = l.within;
+      same = omega (arith, at u, at t, inside u l.within, l.same);
+      greatest = λ v above fits same. l.greatest v above fits (omega (arith, at v, at t, inside v fits));
+    }

@@ -2,9 +2,9 @@
 use Rattle.std.specs.Prelude.{◌≡◌, ℕ, ◌*◌, ◌<◌, ◌≤◌, min, List, slice_index}
 use Rattle.std.proofs.Common.{ap, ◌∙◌, arith}
 use Rattle.numbers.specs.Rounding.{rounded_up}
-use Rattle.numbers.proofs.Roundings.{rounded_up_mono, rounded_up_zero, rounded_up_one, rounded_up_self}
-use Rattle.loads.specs.Kind.{Kind, horizon, largest_entry, most_work}
-use Rattle.loads.specs.LawProofs.Guarded.{Formulas}
+use Rattle.numbers.proofs.Roundings.{rounded_up_mono, rounded_up_zero, rounded_up_one, rounded_up_self, last_of_period, next_period}
+use Rattle.loads.specs.Kind.{Kind, Until, guarded, horizon, largest_entry, most_work}
+use Rattle.loads.specs.LawProofs.Guarded.{Formulas, guarded_until}
 
 -- no more periods begin than ticks go by
 pub periods_few : (n t d : ℕ) → 1 ≤ d → n ≡ rounded_up (min t horizon) d → n ≤ horizon
@@ -41,3 +41,18 @@ module _ (work : ℕ → ℕ) (period : ℕ) (p : Periodic work period) where
           omega (arith, asks t, long);
       small = small;
     }
+
+    -- how long a request lasts, by the end of the last period that has begun
+    until_formulas : (t u : ℕ) → t ≤ horizon → u ≡ min (rounded_up t period * period) horizon → Until horizon (k.request row) t u
+    until_formulas t u fits e = record {
+      within = omega arith;
+      same =
+          let at : rounded_up u period ≡ rounded_up t period = ap (λ v. rounded_up v period) e ∙ last_of_period t period horizon p.period_low fits in
+          omega (arith, asks u, asks t, ap work at);
+      greatest = λ v above within same.
+          let later : rounded_up t period < rounded_up v period = next_period t period horizon v p.period_low (omega arith) within in
+          omega (arith, asks v, asks t, p.more (rounded_up t period) (rounded_up v period) later);
+    }
+
+    pub periodic_until : k.fault row ≡ 0 → (t u : ℕ) → u ≡ min (rounded_up (min t horizon) period * period) horizon → Until horizon ((guarded k).request row) t u
+    periodic_until lawful t u e = guarded_until k row t u lawful (until_formulas (min t horizon) u (omega arith) e)
