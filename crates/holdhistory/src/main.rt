@@ -68,6 +68,7 @@ impl fmt::Display for Words<'_> {
             Edit::Mark { resource, mark } => write!(
                 f,
                 "Mark resource {resource} {}",
+                // this program's words for a mark, used here alone
                 match mark {
                     Mark::Lowered => "lowered",
                     Mark::Kept => "kept",

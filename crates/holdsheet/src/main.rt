@@ -52,6 +52,7 @@ fn judge(rt: &impl Print, level: &Level<Plain, Whole>, task: &Task) -> anyhow::R
 fn run(rt: &impl Print) -> anyhow::Result<()> {
     println!(rt; "Two plain tasks on the whole processor, the most urgent first.")?;
     let rows = TASKS.map(|task| task.row);
+    // with the index, which is how many tasks stand above
     for (above, task) in TASKS.iter().enumerate() {
         let level = Level {
             kind: &Plain,

@@ -7,7 +7,7 @@ ghost use Rattle.table.specs.Tables.{ledger, held, deadlines, length_at};
 use crate::table::{RESOURCES, Table};
 use loads::Row;
 
-// `few` stands at each of the three: a caller of one does not ask the others
+// `few` stands at each of the three: a caller of one does not ask the others; `rows` and `deadlines` lend two fields of two types
 #[tactic(auto, using(crate::proofs::FlatTasks::standing))]
 impl Table {
     /// How many tasks there are.

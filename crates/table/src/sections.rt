@@ -25,6 +25,7 @@ impl Table {
     }
 
     /// The longest section on a resource, by its index, of the tasks below a position.
+    // the chain of `blocking_under` too: a function for both would take a range and a closure, and be as long
     pub(crate) fn longest_below(&self, position: usize, j: usize) -> u64
         ensures { result ≡ longest_below (ledger self.now) (j + 1) position }
     {
