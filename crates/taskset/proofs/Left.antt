@@ -29,6 +29,10 @@ module _ (k : Kind) (s : ℕ → ℕ) (t : Table) (left : ∥ LeftByEdits k s t 
   pub left_on : (e : Edit) (a : Answer) (u : Table) → GoesOn k s e a t u → ∥ LeftByEdits k s u ∥₁
   left_on e a u goes_on = ∥∥₁_map left (λ (es, rs, st). (es ++ e ∷ [], rs ++ a ∷ [], goes_on es rs st))
 
+  -- so is a table that is the same
+  pub left_alike : (u : Table) → u ≡ t → ∥ LeftByEdits k s u ∥₁
+  left_alike u same = subst (λ v. ∥ LeftByEdits k s v ∥₁) (sym same) left
+
   -- its tasks are served
   pub left_serves_task : (p : ℕ) (x : ℕ × ℤ × ℕ) → OfTask k s (ledger t) (held t) p (Ok x) → ServedTask k s (ledger t) (held t) p (Ok x)
   left_serves_task p x h = ∥∥₁_elim left (hlevel props) (λ (es, rs, st). served_task k s (ledger t) (held t) p x es rs h st)
@@ -48,11 +52,23 @@ module _ {K S : Type 0} (kinds : Kinds K) (supplies : Supplies S) (e : Edit) (a 
     goes_on = turn.1;
   }
 
--- a refusal that is passed on leaves the set as it was
-module _ {K S : Type 0} (kinds : Kinds K) (supplies : Supplies S) (set : TaskSet K S kinds supplies) (e : Edit) (f : SetFault) (r : Answer) (failed : IsErrAnd r (λ g. g ≡ f)) where
-  pub refused_set : Turn (kinds.means set.kind) (supplies.gives set.supply) e (Err f) set.table set.table → Edited kinds supplies e r set set
-  refused_set turn = subst (λ a. Edited kinds supplies e a set set) (sym (passed_on r f failed)) (edited_set kinds supplies e (Err f) set set refl refl refl turn)
+-- a refusal that is passed on leaves the set as it was: its kind, its supply and its table are those of before
+module _ {K S : Type 0} (kinds : Kinds K) (supplies : Supplies S) (before after : TaskSet K S kinds supplies) (kind : after.kind ≡ before.kind) (supply : after.supply ≡ before.supply) (same : after.table ≡ before.table) (e : Edit) (f : SetFault) (r : Answer) (failed : IsErrAnd r (λ g. g ≡ f)) where
+  pub refused_alike : Turn (kinds.means before.kind) (supplies.gives before.supply) e (Err f) before.table before.table → Edited kinds supplies e r before after
+  refused_alike turn =
+      let k = kinds.means before.kind in
+      let s = supplies.gives before.supply in
+      subst (λ a. Edited kinds supplies e a before after) (sym (passed_on r f failed))
+      (edited_set kinds supplies e (Err f) before after kind supply same (subst (λ t. Turn k s e (Err f) before.table t) (sym same) turn))
 
   -- refused at its first questions
+  pub refused_first : FirstNo (places (ledger before.table) e) f → Edited kinds supplies e r before after
+  refused_first no' = refused_alike (refused _ _ e f before.table (λ _. refused_early _ _ (ledger before.table) e f no'))
+
+module _ {K S : Type 0} (kinds : Kinds K) (supplies : Supplies S) (set : TaskSet K S kinds supplies) (e : Edit) (f : SetFault) (r : Answer) (failed : IsErrAnd r (λ g. g ≡ f)) where
+  -- the set itself
+  pub refused_set : Turn (kinds.means set.kind) (supplies.gives set.supply) e (Err f) set.table set.table → Edited kinds supplies e r set set
+  refused_set = refused_alike kinds supplies set set refl refl refl e f r failed
+
   pub refused_at_once : FirstNo (places (ledger set.table) e) f → Edited kinds supplies e r set set
-  refused_at_once no' = refused_set (refused _ _ e f set.table (λ _. refused_early _ _ (ledger set.table) e f no'))
+  refused_at_once = refused_first kinds supplies set set refl refl refl e f r failed

@@ -1,5 +1,5 @@
 -- Each way in which an edit ends, as a step of any history.
-use Rattle.std.proofs.Common.{◌≡◌, ℕ, ◌≤◌, List, [], ◌∷◌, ◌++◌, IsErrAnd, Ok, Err, Result, sym, refl, ap, ◌∙◌, subst, inl, inr, arith}
+use Rattle.std.proofs.Common.{◌≡◌, ℕ, ◌≤◌, List, [], ◌∷◌, ◌++◌, IsErrAnd, Ok, Err, sym, refl, ap, ◌∙◌, subst, inl, inr, arith}
 use Rattle.loads.specs.declared.rows.RowFault.{RowFault}
 use Rattle.loads.specs.Kind.{Kind, Laws}
 use Rattle.loads.specs.Rows.{Judged}
@@ -25,14 +25,10 @@ pub passed_on : (r : Answer) (f : SetFault) → IsErrAnd r (λ g. g ≡ f) → r
 passed_on (Ok _) f h = absurd h
 passed_on (Err g) f h = ap Err h
 
--- what an edit is answered after its last question, and the table that it leaves
-abbrev pub said : Result Table SetFault → Answer
-said (Ok _) = Ok tt
-said (Err f) = Err f
-
-abbrev pub left_by : Table → Result Table SetFault → Table
-left_by t (Ok u) = u
-left_by t (Err f) = t
+-- the table that an edit, so answered after its last question, leaves
+abbrev pub left_by : Table → Answer → Table → Table
+left_by t (Ok _) u = u
+left_by t (Err f) u = t
 
 module _ (k : Kind) (s : ℕ → ℕ) where
   -- an edit as a step of the ledger, where its numbers are within their limits, and as a step of any history
@@ -71,20 +67,20 @@ module _ (k : Kind) (s : ℕ → ℕ) where
       sound : Sound k (ledger t) → Sound k (ledger x)
       sound ok = subst (Sound k) (sym is) (kept ok)
 
-      asked_last : (r : Result Table SetFault) → (CanServe → AllYes (questions k s (ledger t) e)) → ((CanServe → ⊥) → FirstNo (questions k s (ledger t) e) Unserved) → Served k s x r → Turn e (said r) t (left_by t r)
-      asked_last (Ok u) yes' no' (settled, serves) = taken e t x u is (λ ok. yes' (subst (Servable k s) is (serves (sound ok)))) settled
-      asked_last (Err f) yes' no' (which, unserved) =
+      asked_last : (u : Table) (a : Answer) → (CanServe → AllYes (questions k s (ledger t) e)) → ((CanServe → ⊥) → FirstNo (questions k s (ledger t) e) Unserved) → Served k s x a u → Turn e a t (left_by t a u)
+      asked_last u (Ok _) yes' no' (settled, serves) = taken e t x u is (λ ok. yes' (subst (Servable k s) is (serves (sound ok)))) settled
+      asked_last u (Err f) yes' no' (which, same, unserved) =
           subst (λ g. Turn e (Err g) t t) (sym which)
           (refused e Unserved t (λ ok. no' (λ can. unserved (sound ok) (subst (Servable k s) (sym is) can))))
 
-    pub insert_asked : (p : ℕ) (row : List ℕ) (d : ℕ) (t x : Table) (r : Result Table SetFault) → Entered (ledger t) (Insert p row d) (Ok tt) (ledger x) → k.fault row ≡ 0 → (1 ≤ d) × (d ≤ k.separation row) → Served k s x r → Turn (Insert p row d) (said r) t (left_by t r)
-    insert_asked p row d t x r ((room, (gap, _)), is) lawful deadline =
-        asked_last (Insert p row d) t x is (insert_sound k (ledger t) p row d room gap lawful deadline) r
+    pub insert_asked : (p : ℕ) (row : List ℕ) (d : ℕ) (t x u : Table) (a : Answer) → Entered (ledger t) (Insert p row d) (Ok tt) (ledger x) → k.fault row ≡ 0 → (1 ≤ d) × (d ≤ k.separation row) → Served k s x a u → Turn (Insert p row d) a t (left_by t a u)
+    insert_asked p row d t x u a ((room, (gap, _)), is) lawful deadline =
+        asked_last (Insert p row d) t x is (insert_sound k (ledger t) p row d room gap lawful deadline) u a
         (λ can. (room, (gap, (lawful, (deadline, (can, tt))))))
         (λ cannot. inr (room, inr (gap, inr (lawful, inr (deadline, inl (cannot, refl))))))
 
-    pub section_asked : (p j n : ℕ) (t x : Table) (r : Result Table SetFault) → Entered (ledger t) (Section p j n) (Ok tt) (ledger x) → n ≤ job k (ledger t) p → Served k s x r → Turn (Section p j n) (said r) t (left_by t r)
-    section_asked p j n t x r ((at, (resource, _)), is) short =
-        asked_last (Section p j n) t x is (section_sound k (ledger t) p j n at short) r
+    pub section_asked : (p j n : ℕ) (t x u : Table) (a : Answer) → Entered (ledger t) (Section p j n) (Ok tt) (ledger x) → n ≤ job k (ledger t) p → Served k s x a u → Turn (Section p j n) a t (left_by t a u)
+    section_asked p j n t x u a ((at, (resource, _)), is) short =
+        asked_last (Section p j n) t x is (section_sound k (ledger t) p j n at short) u a
         (λ can. (at, (resource, (short, (can, tt)))))
         (λ cannot. inr (at, inr (resource, inr (short, inl (cannot, refl)))))

@@ -1,8 +1,8 @@
 -- What the steps of an edit answer: slacks reckoned, ceilings settled, whether an edited table can be served.
-use Rattle.std.specs.Prelude.{◌≡◌, ℕ, ◌≤◌, List, length, ℤ, Ok, Err, Result}
+use Rattle.std.specs.Prelude.{◌≡◌, ℕ, ◌≤◌, List, length, ℤ, Ok, Err}
 use Rattle.loads.specs.Kind.{Kind}
-use Rattle.ledger.specs.declared.fault.SetFault.{SetFault}
 use Rattle.ledger.specs.declared.fault.SetFault.TheVariants.{Unserved}
+use Rattle.ledger.specs.History.{Answer}
 use Rattle.ledger.specs.Instants.{slack, Servable}
 use Rattle.ledger.specs.Ledger.{Ledger}
 use Rattle.ledger.specs.Settled.{slack_at, lowest_table}
@@ -20,8 +20,8 @@ module _ (k : Kind) (s : ℕ → ℕ) where
     pub entries : ledger after ≡ ledger before
     pub ceilings : held after ≡ lowest_table (slack k s (ledger before)) (ledger before)
 
-  -- the answer to whether an edited table can be served: the table with the lowest ceilings, or a refusal
+  -- the answer to whether an edited table can be served, and the table that then stands: with the lowest ceilings, or, refused, as it was
   -- where the ledger's numbers are within their limits, it is refused exactly where no table of ceilings fits and serves
-  abbrev pub Served : Table → Result Table SetFault → Type 0
-  Served edited (Ok after) = Settled edited after × (Sound k (ledger edited) → Servable k s (ledger edited))
-  Served edited (Err f) = (f ≡ Unserved) × (Sound k (ledger edited) → Servable k s (ledger edited) → ⊥)
+  abbrev pub Served : Table → Answer → Table → Type 0
+  Served edited (Ok _) after = Settled edited after × (Sound k (ledger edited) → Servable k s (ledger edited))
+  Served edited (Err f) after = (f ≡ Unserved) × (after ≡ edited) × (Sound k (ledger edited) → Servable k s (ledger edited) → ⊥)

@@ -62,10 +62,8 @@ impl<K: LoadKind, S: Supply> TaskSet<K, S> {
     fn hold(&self, j: usize) -> u64
         ensures { result ≡ hold_of K.LoadKind S.Supply self.now (j + 1) }
     {
-        (0..self.table.count())
-            .map(|at| self.held_for(at, j))
-            .max()
-            .unwrap_or(0)
+        // `fold`: a search by `max` leaves two copies of the loop, neither of them inlined
+        (0..self.table.count()).fold(0, |longest: u64, at| longest.max(self.held_for(at, j)))
     }
 
     /// What there is to say of a resource: its natural ceiling, its held ceiling and its hold time.

@@ -2,10 +2,10 @@
 ghost use Rattle.std.specs.Prelude.{◌≡◌};
 ghost use Rattle.ledger.specs.declared.edit.Edit.TheVariants.{Insert, Withdraw, Section};
 ghost use Rattle.ledger.specs.declared.edit.Edit.TheVariants.{Mark as Marked};
-ghost use Rattle.taskset.specs.Reckoning.{Settled, Served};
+ghost use Rattle.taskset.specs.Reckoning.{Served};
 ghost use Rattle.taskset.specs.Sets.{Edited};
 
-use crate::reckoning::slacks;
+use crate::reckoning::{settle, slacks};
 use crate::set::TaskSet;
 use ledger::{Edit, Mark, SetFault};
 use loads::{LoadKind, Row};
@@ -13,25 +13,17 @@ use supplies::Supply;
 use table::{Table, from_one_to};
 
 impl<K: LoadKind, S: Supply> TaskSet<K, S> {
-    /// A table with every ceiling settled afresh.
-    fn settled(&self, mut table: Table) -> Table
-        ensures { Settled (K.means self.now.kind) (S.gives self.now.supply) table result }
+    /// Settles every ceiling of an edited table afresh, if some table of ceilings fits and leaves every task an instant.
+    // in place: a table is large, and an answer that holds one is copied and blanked at every edit
+    fn serve(&self, edited: &mut Table) -> Result<(), SetFault>
+        ensures { Served (K.means self.now.kind) (S.gives self.now.supply) edited.old result edited.new }
     {
-        let slacks = slacks(&self.kind, &self.supply, &table);
-        table.settle(&slacks);
-        table
-    }
-
-    /// An edited table with every ceiling settled afresh, if some table of ceilings fits and leaves every task an instant.
-    fn served(&self, mut edited: Table) -> Result<Table, SetFault>
-        ensures { Served (K.means self.now.kind) (S.gives self.now.supply) edited result }
-    {
-        let slacks = slacks(&self.kind, &self.supply, &edited);
+        let slacks = slacks(&self.kind, &self.supply, edited);
         if !edited.bearable(&slacks) {
             return Err(SetFault::Unserved);
         }
         edited.settle(&slacks);
-        Ok(edited)
+        Ok(())
     }
 
     /// Puts a task in at a position; later tasks move down, and the new task uses no resource.
@@ -44,7 +36,8 @@ impl<K: LoadKind, S: Supply> TaskSet<K, S> {
         if !from_one_to(deadline, self.kind.separation(&row)) {
             return Err(SetFault::Deadline);
         }
-        self.table = self.served(edited)?;
+        self.serve(&mut edited)?;
+        self.table = edited;
         Ok(())
     }
 
@@ -52,9 +45,8 @@ impl<K: LoadKind, S: Supply> TaskSet<K, S> {
     pub fn withdraw(&mut self, position: u64) -> Result<(), SetFault>
         ensures { Edited K.LoadKind S.Supply (Withdraw position) result self.old self.new }
     {
-        let mut edited = self.table;
-        edited.withdraw(position)?;
-        self.table = self.settled(edited);
+        self.table.withdraw(position)?;
+        settle(&self.kind, &self.supply, &mut self.table);
         Ok(())
     }
 
@@ -68,7 +60,8 @@ impl<K: LoadKind, S: Supply> TaskSet<K, S> {
         if length > longest {
             return Err(SetFault::Length);
         }
-        self.table = self.served(edited)?;
+        self.serve(&mut edited)?;
+        self.table = edited;
         Ok(())
     }
 
@@ -76,9 +69,8 @@ impl<K: LoadKind, S: Supply> TaskSet<K, S> {
     pub fn mark(&mut self, resource: u64, mark: Mark) -> Result<(), SetFault>
         ensures { Edited K.LoadKind S.Supply (Marked resource mark) result self.old self.new }
     {
-        let mut edited = self.table;
-        edited.mark(resource, mark)?;
-        self.table = self.settled(edited);
+        self.table.mark(resource, mark)?;
+        settle(&self.kind, &self.supply, &mut self.table);
         Ok(())
     }
 

@@ -1,6 +1,6 @@
 //! What is reckoned of a whole table.
 ghost use Rattle.table.specs.Tables.{ledger};
-ghost use Rattle.taskset.specs.Reckoning.{Slacks};
+ghost use Rattle.taskset.specs.Reckoning.{Settled, Slacks};
 
 use crate::task::TaskAt;
 use loads::LoadKind;
@@ -24,4 +24,12 @@ pub(crate) fn slacks<K: LoadKind, S: Supply>(kind: &K, supply: &S, table: &Table
         slacks[at] = task.slack();
     }
     slacks
+}
+
+/// Settles every ceiling of a table afresh.
+pub(crate) fn settle<K: LoadKind, S: Supply>(kind: &K, supply: &S, table: &mut Table)
+    ensures { Settled (K.means kind.now) (S.gives supply.now) table.old table.new }
+{
+    let slacks = slacks(kind, supply, table);
+    table.settle(&slacks);
 }
