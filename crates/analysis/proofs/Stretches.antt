@@ -1,7 +1,7 @@
 -- Stretches of instants over which requests stay the same: one row more.
-use Rattle.std.proofs.Common.{◌≡◌, ℕ, ◌+◌, ◌<◌, ◌≤◌, min, List, [], ◌∷◌, ◌++◌, sym, refl, ◌∙◌, ⊎_elim, arith}
-use Rattle.std.proofs.lemmas.Bool.{cases_lt}
-use Rattle.loads.specs.Kind.{Kind, Laws, Until}
+use Rattle.std.proofs.Common.{◌≡◌, ℕ, ◌+◌, ◌<◌, ◌≤◌, min, List, [], ◌∷◌, ◌++◌, sym, refl, ap, ◌∙◌, ⊎_elim, arith}
+use Rattle.std.proofs.lemmas.Bool.{cases_lt, cases_eq}
+use Rattle.loads.specs.Kind.{Kind, Laws, Until, Lasts, horizon}
 use Rattle.analysis.specs.Instants.{requests}
 use Rattle.analysis.proofs.Totals.{requests_push, request_rises, requests_rise}
 
@@ -40,7 +40,7 @@ module _ {limit t : ℕ} (within : t ≤ limit) where
         (cases_lt (r t) (r v))
 
   -- two together: the earlier change counts
-  until_both : {f r : ℕ → ℕ} → Rising f → Rising r → {e u : ℕ} → Until limit f t e → Until limit r t u → Until limit (λ v. f v + r v) t (min e u)
+  pub until_both : {f r : ℕ → ℕ} → Rising f → Rising r → {e u : ℕ} → Until limit f t e → Until limit r t u → Until limit (λ v. f v + r v) t (min e u)
   until_both f_rising r_rising {e} {u} l m =
       let after = until_after l in
       let after' = until_after m in
@@ -59,3 +59,19 @@ module _ {limit t : ℕ} (within : t ≤ limit) where
   stretch_push {k} laws rows row l m =
       until_same (λ v. sym (requests_push k rows row v))
       (until_both (requests_rise k laws rows) (request_rises k laws row) l m)
+
+-- a row of which the kind answers an instant before t asks for the same to the end: it is unlawful, or t is past the horizon
+pub never_changes : {k : Kind} → Laws k → (row : List ℕ) (t u : ℕ) → Lasts k row t u → u < t → Until horizon (k.request row) t horizon
+never_changes {k} laws row t u lasts before = record {
+  within = omega arith;
+  same =
+      ⊎_elim
+      (λ (yes' : k.fault row ≡ 0).
+      ⊎_elim
+      (λ (late : horizon < t). let end : horizon ≡ min t horizon = omega arith in ap (k.request row) end ∙ sym (laws.late row t))
+      (λ (early : t ≤ horizon). absurd (omega (arith, until_after early (lasts.lawful yes'))))
+      (cases_lt horizon t))
+      (λ (no' : k.fault row ≡ 0 → ⊥). let none = laws.unlawful row no' in none.no_request horizon ∙ sym (none.no_request t))
+      (cases_eq (k.fault row) 0);
+  greatest = λ v above within e. omega arith;
+}

@@ -10,21 +10,22 @@ use loads::{HORIZON, LoadKind, Row};
 use supplies::{LAST_INSTANT, Supply};
 
 impl<K: LoadKind, S: Supply> Level<'_, K, S> {
-    /// The greatest instant up to the horizon at which the row asks for what it asks for at `t`. An unlawful row never asks for
-    /// anything.
+    /// The greatest instant up to the horizon at which the row asks for what it asks for at `t`, from the first tick on. An unlawful
+    /// row never asks for anything.
     fn unchanged_until(&self, row: &Row, t: u64) -> u64
+        requires { 1 ≤ t }
         ensures { Until horizon ((K.means self.now.kind.now).request row.now) t result }
     {
-        match self.kind.lawful(row) {
-            Ok(()) => self.kind.until(row, t),
-            Err(_) => HORIZON,
-        }
+        // an answer before `t` tells an unlawful row, so that no row is judged once more
+        let until = self.kind.until(row, t);
+        if until < t { HORIZON } else { until }
     }
 
-    /// The end of the stretch from `t` on: the greatest instant up to the horizon at which the rows above ask for what they ask
-    /// for at `t`.
+    /// The end of the stretch from `t` on, at the first tick or later: the greatest instant up to the horizon at which the rows
+    /// above ask for what they ask for at `t`.
     fn stretch_end(&self, t: u64) -> u64
-        requires { t ≤ horizon }
+        requires low { 1 ≤ t }
+        requires within { t ≤ horizon }
         ensures { Until horizon (requests (K.means self.now.kind.now) self.now.above.now) t result }
     {
         self.above

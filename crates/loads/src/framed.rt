@@ -97,6 +97,7 @@ impl ByFormulas for Framed {
     ghost laws = { λ _. framed_formula_laws };
 
     // as plain: each names the helper that they share, here and in `until_of_lawful`
+    #[inline]
     fn judge(&self, row: &Row) -> Result<(), RowFault> {
         judge_entries(self, row)
     }

@@ -45,34 +45,48 @@ pub(crate) trait ByFormulas {
 
 /// An unlawful row stands for no work, and a later instant counts as the horizon.
 // the 0 is an amount, of no work; of `until` it is what `LoadKind` promises of an unlawful row
+// a `match` and `inline(always)`, as in the jittered kind: a pile asks of its row level by level, and only where all of it is inlined
+// are the same tests made once; behind a closure, or a call, they are made anew at each level
 impl<F: ByFormulas> LoadKind for F {
     ghost means = { λ k. guarded (F.formulas k) };
 
     ghost laws = { λ k. guarded_laws (F.formulas k) (F.laws k) };
 
+    #[inline(always)]
     fn lawful(&self, row: &Row) -> Result<(), RowFault> {
         self.judge(row)
     }
 
+    #[inline(always)]
     fn longest(&self, row: &Row) -> u64 {
-        self.judge(row).map_or(0, |()| self.longest_of_lawful(row))
+        match self.judge(row) {
+            Ok(()) => self.longest_of_lawful(row),
+            Err(_) => 0,
+        }
     }
 
+    #[inline(always)]
     fn separation(&self, row: &Row) -> u64 {
-        self.judge(row)
-            .map_or(0, |()| self.separation_of_lawful(row))
+        match self.judge(row) {
+            Ok(()) => self.separation_of_lawful(row),
+            Err(_) => 0,
+        }
     }
 
     // `request` and `until` differ in their formula alone: a guard that takes it as a closure would save no line
+    #[inline(always)]
     fn request(&self, row: &Row, t: u64) -> u64 {
-        let instant = t.min(HORIZON);
-        self.judge(row)
-            .map_or(0, |()| self.request_of_lawful(row, instant))
+        match self.judge(row) {
+            Ok(()) => self.request_of_lawful(row, t.min(HORIZON)),
+            Err(_) => 0,
+        }
     }
 
+    #[inline(always)]
     fn until(&self, row: &Row, t: u64) -> u64 {
-        let instant = t.min(HORIZON);
-        self.judge(row)
-            .map_or(0, |()| self.until_of_lawful(row, instant))
+        match self.judge(row) {
+            Ok(()) => self.until_of_lawful(row, t.min(HORIZON)),
+            Err(_) => 0,
+        }
     }
 }

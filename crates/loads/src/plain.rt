@@ -36,6 +36,7 @@ impl ByFormulas for Plain {
 
     ghost laws = { λ _. plain_formula_laws };
 
+    #[inline]
     fn judge(&self, row: &Row) -> Result<(), RowFault> {
         judge_entries(self, row)
     }

@@ -11,5 +11,5 @@ returns g c =
     let k = g.K.LoadKind.means level.kind.now in
     subst (λ rows. Until horizon (requests k rows) c.args.t c.fold.result) c.iter.ensures.rest
     (fold_over fronts (λ row. row.now) _ (λ rows end. Until horizon (requests k rows) c.args.t end) _
-    (λ rows a row b f' so_far called. let more = λ (u : ℕ). stretch_push c.requires (g.met.K.LoadKind.laws level.kind.now) rows row.now {u = u} so_far in search (rules, more))
+    (λ rows a row b f' so_far called. let more = λ (u : ℕ). stretch_push c.requires.within (g.met.K.LoadKind.laws level.kind.now) rows row.now {u = u} so_far in search (rules, more))
     _ _ _ _ (slice_gives c.iter.result) (until_none horizon c.args.t) c.fold.ensures.ran)
