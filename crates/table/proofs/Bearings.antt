@@ -17,7 +17,7 @@ use Rattle.table.proofs.Running.{Filled, filled_more, filled_all}
 
 module _ (slacks : List ℤ) (l : Ledger) where
   -- a ceiling goes down past the position above it, or stays, as the task of that position bears the sections below or not, by its index
-  bears_above : (j x longest : ℕ) (b : Bool) → 1 < x → longest ≡ longest_below l j (x - 1) → b ≡ le_z (pos longest) (get_or slacks (x - 2) (pos 0)) → bears (slack_at slacks) l j (x - 1) ≡ b
+  pub bears_above : (j x longest : ℕ) (b : Bool) → 1 < x → longest ≡ longest_below l j (x - 1) → b ≡ le_z (pos longest) (get_or slacks (x - 2) (pos 0)) → bears (slack_at slacks) l j (x - 1) ≡ b
   bears_above j x longest b h is answer =
       let index : x - 2 ≡ x - 1 - 1 = omega arith in
       sym (answer ∙ ap (λ n. le_z (pos n) (get_or slacks (x - 2) (pos 0))) is ∙ ap (λ n. le_z (pos (longest_below l j (x - 1))) (get_or slacks n (pos 0))) index)

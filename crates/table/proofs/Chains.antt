@@ -2,15 +2,15 @@
 use Rattle.std.proofs.Common.{◌≡◌, ℕ, zero, suc, ◌+◌, ◌-◌, ◌<◌, ◌≤◌, max, Bool, true, false, cond, ◌&&◌, leb, List, [], ◌∷◌, map, length, get_or, drop, Option, sym, refl, ap, ◌∙◌, subst, ⊎_elim, add-sub_cancel, arith}
 use Rattle.std.specs.Array.{IsFromFnResult, IsFromFnResultFrom}
 use Rattle.std.specs.Fn.{Called}
-use Rattle.std.specs.Iterator.{PicksByCmp}
+use Rattle.std.specs.Iterator.{Drains, PicksByCmp}
 use Rattle.std.specs.Iterator.Adapters.{map_source, map_callee}
-use Rattle.std.specs.List.{fold, reduce, filter, range_with_len}
+use Rattle.std.specs.List.{FoldsTo, fold, reduce, filter, range_with_len}
 use Rattle.std.specs.Option.{unwrap_or}
 use Rattle.std.specs.Ordering.{nat_cmp, max_by_ordering}
 use Rattle.std.proofs.iter.Yields.{nat_range_steps}
 use Rattle.std.proofs.lemmas.Bool.{cases_eq}
 use Rattle.std.proofs.lemmas.Iterator.{YieldsList, maps, YieldsList-from_range, YieldsList-from_map}
-use Rattle.std.proofs.lemmas.Iterator.Consumers.{reduce_from_yields_List, YieldsList-at}
+use Rattle.std.proofs.lemmas.Iterator.Consumers.{fold_from_yields_List, reduce_from_yields_List, YieldsList-at}
 use Rattle.std.proofs.lemmas.List.{at_drop_more, at_drop_all}
 use Rattle.std.proofs.lemmas.List.Folds.{max_of_map}
 use Rattle.std.proofs.lemmas.List.FromFn.{get_or-range_with_len}
@@ -39,6 +39,11 @@ most_of_chain h is s r m ran chain value =
     let largest : r ≡ reduce (λ p z. max_by_ordering (nat_cmp p z) p z) (map h is) = reduce_from_yields_List (λ p z. max_by_ordering (nat_cmp p z) p z) s r ran chain in
     omega (arith, value ∙ ap (λ o. unwrap_or o 0) largest ∙ max_of_map h is ∙ most_folded h 0 is)
 
+-- `fold(0, ..)` of a chain of places, by the larger of what there is and what h answers at each
+pub most_by_fold : {S F : Type 0} {steps : S → Option ℕ → S → Type 0} {g : Mut F (ℕ × (ℕ × Unit {0})) ℕ} {s : S} {a : F} (h : ℕ → ℕ) (is : List ℕ) (m : ℕ) → ((xs : List ℕ) × (q : F) × Drains steps s xs × FoldsTo {P = F × ℕ} (λ p x q. Called g p.0 (p.1, (x, tt)) q.1 q.0) (a, 0) xs (q, m)) →
+    YieldsList steps (λ x. x) s is → ((n x y : ℕ) (q : F) → Called g a (n, (x, tt)) y q → (q ≡ a) × (y ≡ max n (h x))) → m ≡ most h is
+most_by_fold {g = g} h is m ran chain calls = omega (arith, fold_from_yields_List g (λ n x. max n (h x)) 0 m ran chain calls ∙ most_folded h 0 is)
+
 -- the largest of what h answers at each place of a list from `from` on, where it answers the value there
 module _ {X : Type 0} (f : X → ℕ) (xs : List X) (d : X) (h : ℕ → ℕ) where
   most_places : (from n : ℕ) → n ≡ length xs - from → ((i : ℕ) → from ≤ i → i < length xs → h i ≡ f (get_or xs i d)) → most h (range_with_len from n) ≡ most f (drop from xs)
@@ -55,6 +60,13 @@ module _ {X : Type 0} (f : X → ℕ) (xs : List X) (d : X) (h : ℕ → ℕ) wh
       m ≡ unwrap_or r 0 → to ≡ length xs → ((i : ℕ) → from ≤ i → i < to → h i ≡ f (get_or xs i d)) → m ≡ most f (drop from xs)
   most_in_range {g = g} {s = s} from to r m ran source callee calls value whole each =
       most_of_chain h (range_with_len from (to - from)) s r m ran (YieldsList-from_map g h (YieldsList-at source (YieldsList-from_range from to (to - from) refl refl)) callee calls) value
+      ∙ most_places from (to - from) (omega arith) (λ i low high. each i low (omega arith))
+
+  -- `(from..to).fold(0, ..)` by the larger
+  pub most_by_fold_in_range : {F : Type 0} {g : Mut F (ℕ × (ℕ × Unit {0})) ℕ} {a : F} (from to : ℕ) (m : ℕ) → ((ys : List ℕ) × (q : F) × Drains nat_range_steps (record { start = from; end = to }) ys × FoldsTo {P = F × ℕ} (λ p x q. Called g p.0 (p.1, (x, tt)) q.1 q.0) (a, 0) ys (q, m)) →
+      ((n x y : ℕ) (q : F) → Called g a (n, (x, tt)) y q → (q ≡ a) × (y ≡ max n (h x))) → to ≡ length xs → ((i : ℕ) → from ≤ i → i < to → h i ≡ f (get_or xs i d)) → m ≡ most f (drop from xs)
+  most_by_fold_in_range from to m ran calls whole each =
+      most_by_fold h (range_with_len from (to - from)) m ran (YieldsList-from_range from to (to - from) refl refl) calls
       ∙ most_places from (to - from) (omega arith) (λ i low high. each i low (omega arith))
 
 -- the sections of a task that can block a position, and the longest of them

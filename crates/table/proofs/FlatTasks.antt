@@ -9,10 +9,10 @@ use Rattle.table.proofs.Splits.{same_task, tasks_split, tasks_first}
 use borrow.Rule.Slice.PartMut.{put_mid, mid_of}
 
 -- the lengths of one task
-length_sixteen : (us : List ℕ) (k : ℕ) → 16 * k + 16 ≤ length us → length (sixteen k us) ≡ 16
+pub length_sixteen : (us : List ℕ) (k : ℕ) → 16 * k + 16 ≤ length us → length (sixteen k us) ≡ 16
 length_sixteen us k h = simp (length-take, length-drop) (omega arith)
 
-get_or_sixteen : (us : List ℕ) (k i d : ℕ) → i < 16 → get_or (sixteen k us) i d ≡ get_or us (16 * k + i) d
+pub get_or_sixteen : (us : List ℕ) (k i d : ℕ) → i < 16 → get_or (sixteen k us) i d ≡ get_or us (16 * k + i) d
 get_or_sixteen us k i d h = get_or-take 16 (drop (16 * k) us) i d h ∙ get_or-drop (16 * k) us i d
 
 -- the task with an index

@@ -9,7 +9,7 @@ use Rattle.table.specs.Tables.{length_at}
 pub section_is : (x : Task) (j : ℕ) → section x (j + 1) ≡ get_or x.lengths j 0
 section_is x j = ap (λ n. get_or x.lengths n 0) (add-sub_cancel j 1)
 
-natural_none : (xs : List Task) (j : ℕ) → ((k : ℕ) → k < length xs → length_at xs k j ≡ 0) → natural xs (j + 1) ≡ 0
+pub natural_none : (xs : List Task) (j : ℕ) → ((k : ℕ) → k < length xs → length_at xs k j ≡ 0) → natural xs (j + 1) ≡ 0
 natural_none [] j h = refl
 natural_none (x ∷ xs) j h =
     let here : get_or x.lengths j 0 ≡ 0 = h 0 (omega arith) in
@@ -17,7 +17,7 @@ natural_none (x ∷ xs) j h =
     let rest : natural xs (j + 1) ≡ 0 = natural_none xs j (λ k l. h (suc k) (omega arith)) in
     rw (test, rest)
 
-natural_at : (xs : List Task) (j i : ℕ) → ((k : ℕ) → k < i → length_at xs k j ≡ 0) → i < length xs → 0 < length_at xs i j → natural xs (j + 1) ≡ suc i
+pub natural_at : (xs : List Task) (j i : ℕ) → ((k : ℕ) → k < i → length_at xs k j ≡ 0) → i < length xs → 0 < length_at xs i j → natural xs (j + 1) ≡ suc i
 natural_at [] j i h l u = absurd (omega arith)
 natural_at (x ∷ xs) j zero h l u =
     let test : ltb 0 (section x (j + 1)) ≡ true = lt-ltb 0 (section x (j + 1)) (omega (arith, section_is x j)) in

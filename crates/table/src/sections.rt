@@ -29,10 +29,8 @@ impl Table {
     pub(crate) fn longest_below(&self, position: usize, j: usize) -> u64
         ensures { result ≡ longest_below (ledger self.now) (j + 1) position }
     {
-        (position..self.count())
-            .map(|at| self.length(at, j))
-            .max()
-            .unwrap_or(0)
+        // `fold`: a search by `max` leaves two copies of the loop, neither of them inlined
+        (position..self.count()).fold(0, |longest: u64, at| longest.max(self.length(at, j)))
     }
 
     /// The longest section of a task, by its index, that can block a position under the ceilings.
@@ -43,19 +41,19 @@ impl Table {
         (0..RESOURCES)
             // `as`, since there is no `From`
             .filter(|j| (1..=position as u64).contains(&ceilings[*j]))
-            .map(|j| self.length(at, j))
-            .max()
-            .unwrap_or(0)
+            // `fold`, as in `longest_below`
+            .fold(0, |longest: u64, j| longest.max(self.length(at, j)))
     }
 
     /// The blocking of a position under the ceilings.
     pub(crate) fn blocking_under(&self, ceilings: &[u64; 16], position: usize) -> u64
         ensures { result ≡ blocking (ledger self.now) ceilings.now position }
     {
-        (position..self.count())
-            .map(|at| self.obstacle(at, ceilings, position))
-            .max()
-            .unwrap_or(0)
+        // `fold`, as in `longest_below`
+        (position..self.count()).fold(
+            0,
+            |longest: u64, at| longest.max(self.obstacle(at, ceilings, position)),
+        )
     }
 
     /// The blocking of a position under the ceilings that are held.
