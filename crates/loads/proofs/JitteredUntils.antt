@@ -34,12 +34,12 @@ module _ (k : Kind) (laws : Laws k) (row : List ℕ) (lawful : (jittered_formula
         lasts.greatest (min v horizon) (omega arith) (omega arith) (sym (laws.late (row_below row) v) ∙ same)
 
     -- u is so much jitter after t
-    jitter_before : t + jitter row ≤ u
-    jitter_before = let none = λ (less : u < t + jitter row). changed (t + jitter row) less refl in grind arith
+    jitter_passed : t + jitter row ≤ u
+    jitter_passed = let none = λ (less : u < t + jitter row). changed (t + jitter row) less refl in grind arith
 
     pub until_some : Until horizon ((jittered_formulas k).request row) t (u - jitter row)
     until_some =
-        let after = jitter_before in
+        let after = jitter_passed in
         let is = asks_is k laws row lawful in
         record {
           within = omega (arith, lasts.within);
@@ -50,6 +50,10 @@ module _ (k : Kind) (laws : Laws k) (row : List ℕ) (lawful : (jittered_formula
         }
 
   module _ (b : List ℕ) (m t u : ℕ) (same_row : b ≡ row_below row) (same_instant : m ≡ min t horizon) (some : 1 ≤ t) (answer : k.fault b ≡ 0 → Until horizon (k.request b) (m + jitter row) u) (changes : u ≢ horizon) where
+    -- u is so much jitter after t, or after the horizon where t is later
+    pub jitter_before : min t horizon + jitter row ≤ u
+    jitter_before = subst (λ v. v + jitter row ≤ u) same_instant (jitter_passed b m u same_row (λ none. omega (arith, none)) answer changes)
+
     pub jittered_until_some : Until horizon ((jittered k).request row) t (u - jitter row)
     jittered_until_some =
         let P : ℕ → Type 0 = λ v. Until horizon ((jittered_formulas k).request row) v (u - jitter row) in

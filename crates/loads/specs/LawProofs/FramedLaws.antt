@@ -23,13 +23,13 @@ module _ (row : List ℕ) (lawful : framed_formulas.fault row ≡ 0) where
   high : (i : ℕ) → i < 8 → slice_index row i ≤ largest_entry
   high i h = let passes = lowest_passes (framed_entry row) 8 lawful i h in grind (arith, nat_tests)
 
-  place : (j : ℕ) → j % frame_count row < frame_count row
+  pub place : (j : ℕ) → j % frame_count row < frame_count row
   place j = mod-lt j count_low
 
   pub frame_high : (j : ℕ) → frame row j ≤ largest_entry
   frame_high j = high (2 + j % frame_count row) (omega (arith, place j, count_high))
 
-  longest_is : busiest row 1 ≡ largest_of (frame row) (frame_count row)
+  pub longest_is : busiest row 1 ≡ largest_of (frame row) (frame_count row)
   longest_is = largest_of_same (λ s. frames row s 1) (frame row) (frame_count row) (frames_one row)
 
   pub framed_periodic : Periodic (busiest row) (slice_index row 0)

@@ -54,7 +54,7 @@ module _ (row : List ℕ) where
       ap (λ x. frames row x n) e ∙ frames_round (s + q * k) n ∙ shifts q s n
 
   -- n frames are whole cycles and a rest
-  frames_cycles : (s n : ℕ) → n / k * frames row 0 k + frames row s (n % k) ≡ frames row s n
+  pub frames_cycles : (s n : ℕ) → n / k * frames row 0 k + frames row s (n % k) ≡ frames row s n
   frames_cycles s n =
       let split : frames row s (n / k * k + n % k) ≡ frames row s n = ap (frames row s) (div-add-mod' n k) in
       let shift : frames row (s + n / k * k) (n % k) ≡ frames row s (n % k) = shifts (n / k) s (n % k) in

@@ -7,17 +7,17 @@ use Rattle.loads.specs.Jittered.{jittered, jittered_formulas, jittered_fault, ji
 use Rattle.loads.specs.LawProofs.Guarded.{Formulas, FormulaLaws, guarded_laws}
 
 module _ (k : Kind) (laws : Laws k) where
-  entry_named : (row : List ℕ) → jittered_fault k row ≤ 8
+  pub entry_named : (row : List ℕ) → jittered_fault k row ≤ 8
   entry_named row = let below = laws.entry (row_below row) in grind (arith, nat_tests)
 
   module _ (row : List ℕ) (lawful : jittered_fault k row ≡ 0) where
     pub lawful_below : k.fault (row_below row) ≡ 0
     lawful_below = grind (arith, nat_tests)
 
-    jitter_small : jitter row < k.separation (row_below row)
+    pub jitter_small : jitter row < k.separation (row_below row)
     jitter_small = grind (arith, nat_tests)
 
-    load : Load k (row_below row)
+    pub load : Load k (row_below row)
     load = laws.lawful (row_below row) lawful_below
 
     pub jitter_under : jitter row < largest_entry

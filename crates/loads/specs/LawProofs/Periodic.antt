@@ -1,4 +1,4 @@
--- Loads whose work depends only on how many periods have begun: their laws.
+-- Loads whose work depends only on how many periods have begun: their laws, and how long a request lasts.
 use Rattle.std.specs.Prelude.{◌≡◌, ℕ, ◌*◌, ◌<◌, ◌≤◌, min, List, slice_index}
 use Rattle.std.proofs.Common.{ap, ◌∙◌, arith}
 use Rattle.numbers.specs.Rounding.{rounded_up}
@@ -23,7 +23,7 @@ module _ (work : ℕ → ℕ) (period : ℕ) (p : Periodic work period) where
   rises m n h = grind (arith, p.more m n)
 
   -- the work of as many jobs as periods begin up to the horizon
-  work_small : (n : ℕ) → n ≤ horizon → work n ≤ most_work
+  pub work_small : (n : ℕ) → n ≤ horizon → work n ≤ most_work
   work_small n few = omega (arith, p.bounded n)
 
   module _ (k : Kind) (row : List ℕ) (asks : (t : ℕ) → k.request row t ≡ work (rounded_up t period)) where

@@ -20,7 +20,7 @@ module _ (q p : ℕ) (lo : 1 ≤ q) (hi : q ≤ p) where
   abbrev f : ℕ → ℕ
   f t = given_by q p (round q p t) t
 
-  parts : (j : ℕ) → j * p ≡ j * q + j * (p - q)
+  pub parts : (j : ℕ) → j * p ≡ j * q + j * (p - q)
   parts j = let e : p ≡ q + (p - q) = omega arith in ap (λ x. j * x) e ∙ mul-add j q (p - q)
 
   -- while a budget is given, all gaps up to it have gone by

@@ -1,8 +1,7 @@
+use Rattle.std.proofs.Common.{rules}
 use Rattle.loads.specs.LawProofs.FramedLaws.{framed_periodic}
 use Rattle.loads.proofs.Untils.{until_work}
 use Rattle.loads.proofs.framed.FramedByFormulas.until_of_lawful.Goals as goal
 
 pub returns : goal.returns
-returns c =
-    let period = c.separation_of_lawful in
-    until_work (framed_periodic c.args.row.now c.requires.lawful) period.result c.args.t c.last_before_next.result period.ensures c.last_before_next.ensures
+returns c = until_work (framed_periodic c.args.row.now c.requires.lawful) _ c.args.t c.last_before_next.result (search rules) c.last_before_next.ensures
