@@ -10,13 +10,13 @@ use loads::{HORIZON, LoadKind, Row};
 use supplies::{LAST_INSTANT, Supply};
 
 impl<K: LoadKind, S: Supply> Level<'_, K, S> {
-    /// The greatest instant up to the horizon at which the row asks for what it asks for at `t`, from the first tick on. An unlawful
-    /// row never asks for anything.
+    /// The greatest instant up to the horizon at which the row asks for what it asks for at `t`, for a `t` from the first tick on. An
+    /// unlawful row never asks for anything.
     fn unchanged_until(&self, row: &Row, t: u64) -> u64
         requires { 1 ≤ t }
         ensures { Until horizon ((K.means self.now.kind.now).request row.now) t result }
     {
-        // an answer before `t` tells an unlawful row, so that no row is judged once more
+        // an answer before `t` tells an unlawful row, or a `t` past the horizon: no row is judged once more
         let until = self.kind.until(row, t);
         if until < t { HORIZON } else { until }
     }

@@ -45,8 +45,8 @@ pub(crate) trait ByFormulas {
 
 /// An unlawful row stands for no work, and a later instant counts as the horizon.
 // the 0 is an amount, of no work; of `until` it is what `LoadKind` promises of an unlawful row
-// a `match` and `inline(always)`, as in the jittered kind: a pile asks of its row level by level, and only where all of it is inlined
-// are the same tests made once; behind a closure, or a call, they are made anew at each level
+// `inline(always)`, as in the jittered kind, and a `match`: a pile asks of its row level by level, and only where all of it is inlined
+// are the same tests made once; behind a call, or a closure, they are made anew at each level
 impl<F: ByFormulas> LoadKind for F {
     ghost means = { λ k. guarded (F.formulas k) };
 

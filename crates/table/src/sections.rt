@@ -29,7 +29,7 @@ impl Table {
     pub(crate) fn longest_below(&self, position: usize, j: usize) -> u64
         ensures { result ≡ longest_below (ledger self.now) (j + 1) position }
     {
-        // `fold`: a search by `max` leaves two copies of the loop, neither of them inlined
+        // `fold`: `max` takes a first step and then loops, two calls of the step, neither of them inlined
         (position..self.count()).fold(0, |longest: u64, at| longest.max(self.length(at, j)))
     }
 

@@ -20,7 +20,7 @@ impl Settling<'_> {
         requires { at < 32 }
         ensures { result ≡ int_le (pos section) (slice_index_or self.now.slacks.now at (pos 0)) }
     {
-        // `as` on a number that is not negative: compared as `i128`, small tables take a third longer to settle
+        // `as`, of a number that is not negative: compared as `i128`, a table of three tasks takes half as long again to settle
         let slack = self.slacks[at];
         slack >= 0 && section <= slack as u64
     }

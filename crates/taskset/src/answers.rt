@@ -62,7 +62,7 @@ impl<K: LoadKind, S: Supply> TaskSet<K, S> {
     fn hold(&self, j: usize) -> u64
         ensures { result ≡ hold_of K.LoadKind S.Supply self.now (j + 1) }
     {
-        // `fold`: a search by `max` leaves two copies of the loop, neither of them inlined
+        // `fold`: `max` takes a first step and then loops, two calls of the step, neither of them inlined
         (0..self.table.count()).fold(0, |longest: u64, at| longest.max(self.held_for(at, j)))
     }
 

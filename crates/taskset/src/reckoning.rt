@@ -8,7 +8,7 @@ use supplies::Supply;
 use table::Table;
 
 /// The slacks of all tasks, by their indices.
-// Kind, supply and table go together here alone: what is asked of one task is asked of `TaskAt`.
+// Kind, supply and table go together here and in `settle` alone: what is asked of one task is asked of `TaskAt`.
 pub(crate) fn slacks<K: LoadKind, S: Supply>(kind: &K, supply: &S, table: &Table) -> [i64; 32]
     ensures { Slacks (K.means kind.now) (S.gives supply.now) (ledger table.now) result }
 {
