@@ -97,23 +97,27 @@ impl ByFormulas for Framed {
     ghost laws = { λ _. framed_formula_laws };
 
     // as plain: each names the helper that they share, here and in `until_of_lawful`
-    #[inline]
+    #[inline(always)]
     fn judge(&self, row: &Row) -> Result<(), RowFault> {
         judge_entries(self, row)
     }
 
+    #[inline(always)]
     fn longest_of_lawful(&self, row: &Row) -> u64 {
         Cycle { row }.busiest(1)
     }
 
+    #[inline(always)]
     fn separation_of_lawful(&self, row: &Row) -> u64 {
         row[0]
     }
 
+    #[inline(always)]
     fn request_of_lawful(&self, row: &Row, t: u64) -> u64 {
         Cycle { row }.busiest(t.div_ceil(self.separation_of_lawful(row)))
     }
 
+    #[inline(always)]
     fn until_of_lawful(&self, row: &Row, t: u64) -> u64 {
         last_before_next(t, self.separation_of_lawful(row))
     }

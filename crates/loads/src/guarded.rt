@@ -45,19 +45,17 @@ pub(crate) trait ByFormulas {
 
 /// An unlawful row stands for no work, and a later instant counts as the horizon.
 // the 0 is an amount, of no work; of `until` it is what `LoadKind` promises of an unlawful row
-// `inline(always)`, as in the jittered kind, and a `match`: a pile asks of its row level by level, and only where all of it is inlined
-// are the same tests made once; behind a call, or a closure, they are made anew at each level
+// a `match`, and each kind asks for its formulas to be inlined here: behind a closure, or a call, the tests of a row that a level of a
+// pile makes are not seen to be those that the level above has made
 impl<F: ByFormulas> LoadKind for F {
     ghost means = { λ k. guarded (F.formulas k) };
 
     ghost laws = { λ k. guarded_laws (F.formulas k) (F.laws k) };
 
-    #[inline(always)]
     fn lawful(&self, row: &Row) -> Result<(), RowFault> {
         self.judge(row)
     }
 
-    #[inline(always)]
     fn longest(&self, row: &Row) -> u64 {
         match self.judge(row) {
             Ok(()) => self.longest_of_lawful(row),
@@ -65,7 +63,6 @@ impl<F: ByFormulas> LoadKind for F {
         }
     }
 
-    #[inline(always)]
     fn separation(&self, row: &Row) -> u64 {
         match self.judge(row) {
             Ok(()) => self.separation_of_lawful(row),
@@ -74,7 +71,6 @@ impl<F: ByFormulas> LoadKind for F {
     }
 
     // `request` and `until` differ in their formula alone: a guard that takes it as a closure would save no line
-    #[inline(always)]
     fn request(&self, row: &Row, t: u64) -> u64 {
         match self.judge(row) {
             Ok(()) => self.request_of_lawful(row, t.min(HORIZON)),
@@ -82,7 +78,6 @@ impl<F: ByFormulas> LoadKind for F {
         }
     }
 
-    #[inline(always)]
     fn until(&self, row: &Row, t: u64) -> u64 {
         match self.judge(row) {
             Ok(()) => self.until_of_lawful(row, t.min(HORIZON)),

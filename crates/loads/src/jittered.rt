@@ -39,12 +39,12 @@ impl<K: LoadKind> ByFormulas for Jittered<K> {
     #[inline(always)]
     fn judge(&self, row: &Row) -> Result<(), RowFault> {
         let below = without_jitter(row);
-        // the separation of an unlawful row is 0, so that a row is judged once where it is lawful
-        if row[JITTER] < self.below.separation(&below) {
-            return Ok(());
-        }
         self.below.lawful(&below)?;
-        Err(RowFault { entry: 8 })
+        if row[JITTER] < self.below.separation(&below) {
+            Ok(())
+        } else {
+            Err(RowFault { entry: 8 })
+        }
     }
 
     #[inline(always)]
