@@ -26,11 +26,13 @@ impl EntryRule for Framed {
 
     fn allows(&self, row: &Row, index: usize) -> bool {
         let entry = row[index];
+        // compared by hand: by `contains` the eight tests come to so much code that they are not inlined into a pile of jittered kinds, where
+        // every level makes them again
         // `as`: Rust has no `From` of a `usize` for a `u64`
         if index == 1 {
-            (1..=MOST_FRAMES).contains(&entry)
+            1 <= entry && entry <= MOST_FRAMES
         } else if (index as u64) < row[1].saturating_add(2) {
-            (1..=LARGEST_ENTRY).contains(&entry)
+            1 <= entry && entry <= LARGEST_ENTRY
         } else {
             entry == 0
         }
@@ -97,27 +99,22 @@ impl ByFormulas for Framed {
     ghost laws = { λ _. framed_formula_laws };
 
     // as plain: each names the helper that they share, here and in `until_of_lawful`
-    #[inline(always)]
     fn judge(&self, row: &Row) -> Result<(), RowFault> {
         judge_entries(self, row)
     }
 
-    #[inline(always)]
     fn longest_of_lawful(&self, row: &Row) -> u64 {
         Cycle { row }.busiest(1)
     }
 
-    #[inline(always)]
     fn separation_of_lawful(&self, row: &Row) -> u64 {
         row[0]
     }
 
-    #[inline(always)]
     fn request_of_lawful(&self, row: &Row, t: u64) -> u64 {
         Cycle { row }.busiest(t.div_ceil(self.separation_of_lawful(row)))
     }
 
-    #[inline(always)]
     fn until_of_lawful(&self, row: &Row, t: u64) -> u64 {
         last_before_next(t, self.separation_of_lawful(row))
     }

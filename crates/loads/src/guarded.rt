@@ -45,8 +45,6 @@ pub(crate) trait ByFormulas {
 
 /// An unlawful row stands for no work, and a later instant counts as the horizon.
 // the 0 is an amount, of no work; of `until` it is what `LoadKind` promises of an unlawful row
-// a `match`, and each kind asks for its formulas to be inlined here: behind a closure, or a call, the tests of a row that a level of a
-// pile makes are not seen to be those that the level above has made
 impl<F: ByFormulas> LoadKind for F {
     ghost means = { λ k. guarded (F.formulas k) };
 
@@ -57,31 +55,24 @@ impl<F: ByFormulas> LoadKind for F {
     }
 
     fn longest(&self, row: &Row) -> u64 {
-        match self.judge(row) {
-            Ok(()) => self.longest_of_lawful(row),
-            Err(_) => 0,
-        }
+        self.judge(row).map_or(0, |()| self.longest_of_lawful(row))
     }
 
     fn separation(&self, row: &Row) -> u64 {
-        match self.judge(row) {
-            Ok(()) => self.separation_of_lawful(row),
-            Err(_) => 0,
-        }
+        self.judge(row)
+            .map_or(0, |()| self.separation_of_lawful(row))
     }
 
     // `request` and `until` differ in their formula alone: a guard that takes it as a closure would save no line
     fn request(&self, row: &Row, t: u64) -> u64 {
-        match self.judge(row) {
-            Ok(()) => self.request_of_lawful(row, t.min(HORIZON)),
-            Err(_) => 0,
-        }
+        let instant = t.min(HORIZON);
+        self.judge(row)
+            .map_or(0, |()| self.request_of_lawful(row, instant))
     }
 
     fn until(&self, row: &Row, t: u64) -> u64 {
-        match self.judge(row) {
-            Ok(()) => self.until_of_lawful(row, t.min(HORIZON)),
-            Err(_) => 0,
-        }
+        let instant = t.min(HORIZON);
+        self.judge(row)
+            .map_or(0, |()| self.until_of_lawful(row, instant))
     }
 }

@@ -36,7 +36,6 @@ impl<K: LoadKind> ByFormulas for Jittered<K> {
 
     ghost laws = { λ j. jittered_formula_laws (K.means j.below) (K.laws j.below) };
 
-    #[inline(always)]
     fn judge(&self, row: &Row) -> Result<(), RowFault> {
         let below = without_jitter(row);
         self.below.lawful(&below)?;
@@ -47,17 +46,14 @@ impl<K: LoadKind> ByFormulas for Jittered<K> {
         }
     }
 
-    #[inline(always)]
     fn longest_of_lawful(&self, row: &Row) -> u64 {
         self.below.longest(&without_jitter(row))
     }
 
-    #[inline(always)]
     fn separation_of_lawful(&self, row: &Row) -> u64 {
         self.below.separation(&without_jitter(row)) - row[JITTER]
     }
 
-    #[inline(always)]
     fn request_of_lawful(&self, row: &Row, t: u64) -> u64 {
         // no jitter is added at 0: no job arrives in no time
         if t == 0 {
@@ -66,7 +62,6 @@ impl<K: LoadKind> ByFormulas for Jittered<K> {
         self.below.request(&without_jitter(row), t + row[JITTER])
     }
 
-    #[inline(always)]
     fn until_of_lawful(&self, row: &Row, t: u64) -> u64 {
         // every later instant asks for something
         if t == 0 {

@@ -36,27 +36,22 @@ impl ByFormulas for Plain {
 
     ghost laws = { λ _. plain_formula_laws };
 
-    #[inline(always)]
     fn judge(&self, row: &Row) -> Result<(), RowFault> {
         judge_entries(self, row)
     }
 
-    #[inline(always)]
     fn longest_of_lawful(&self, row: &Row) -> u64 {
         row[0]
     }
 
-    #[inline(always)]
     fn separation_of_lawful(&self, row: &Row) -> u64 {
         row[1]
     }
 
-    #[inline(always)]
     fn request_of_lawful(&self, row: &Row, t: u64) -> u64 {
         t.div_ceil(self.separation_of_lawful(row)) * self.longest_of_lawful(row)
     }
 
-    #[inline(always)]
     fn until_of_lawful(&self, row: &Row, t: u64) -> u64 {
         last_before_next(t, self.separation_of_lawful(row))
     }
