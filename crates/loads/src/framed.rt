@@ -26,8 +26,8 @@ impl EntryRule for Framed {
 
     fn allows(&self, row: &Row, index: usize) -> bool {
         let entry = row[index];
-        // compared by hand: by `contains` the eight tests come to so much code that they are not inlined into a pile of jittered kinds, where
-        // every level makes them again
+        // compared by hand: with `contains` the compiler does not inline the tests of a row into a pile of jittered kinds, and every level
+        // makes them again
         // `as`: Rust has no `From` of a `usize` for a `u64`
         if index == 1 {
             1 <= entry && entry <= MOST_FRAMES
